@@ -1,0 +1,9 @@
+pub mod Content
+pub mod Cut
+pub mod Fingerprint
+pub mod Key
+pub mod KeyOrder
+pub mod Layout
+pub mod Names
+pub mod Part
+pub mod Prefix

@@ -1,0 +1,28 @@
+//! Names, paths and fingerprints of a bucket of backups.
+//!
+//! A name is read once, and from then on its type says that it keeps the rules. `Layout` gives
+//! every path of the bucket. Nothing here reads or writes a file.
+//! Read `specs/Names.antt` and `specs/Layout.antt` first.
+#![tactic(auto)]
+
+mod component;
+mod cut;
+mod fingerprint;
+mod key;
+mod layout;
+mod memory;
+mod names;
+mod path;
+mod prefix;
+
+pub use component::Component;
+pub use cut::cut_at;
+pub use fingerprint::{Fingerprint, md5_text};
+pub use key::FileKey;
+pub use layout::{Layout, MetaKind};
+pub use memory::NoMemory;
+pub use names::{BackupName, Fqdn, NameError};
+pub use path::ObjPath;
+
+#[cfg(test)]
+mod tests;

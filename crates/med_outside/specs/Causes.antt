@@ -1,0 +1,13 @@
+-- A fault has a cause: a count that the caller can't raise.
+use Rattle.std.specs.Prelude.{ℕ, ◌+◌, ◌-◌, ◌^◌, ◌≤◌, min, Result, IsErrOf}
+use Rattle.med_outside.specs.declared.denied.Denied.{Denied}
+use Rattle.med_outside.specs.declared.denied.Denied.TheVariants.{Failed}
+
+-- the count rose, or stands at the last value of a 64-bit counter
+abbrev pub Rose : ℕ → ℕ → Type 0
+Rose before now = min (before + 1) (2 ^ 64 - 1) ≤ now
+
+-- the count doesn't fall, and a failure is told only where it rose
+pub record HasCause {T : Type 0} (before now : ℕ) (result : Result T Denied) : Type 0 where
+  pub later : before ≤ now
+  pub failed : IsErrOf result Failed → Rose before now

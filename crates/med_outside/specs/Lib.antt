@@ -1,0 +1,6 @@
+pub mod Causes
+pub mod Effects
+pub mod Sink
+pub mod Snapshot
+pub mod State
+pub mod Storage

@@ -1,0 +1,24 @@
+-- What a snapshot of a node holds.
+use Rattle.std.specs.Prelude.{◌≡◌, ℕ, List, IsTrue, string_bytes, count_by, if◌then◌else◌}
+use Rattle.std.specs.FinMap.{FinMap, contains_key}
+use Rattle.med_base.specs.declared.key.FileKey.{FileKey}
+use Rattle.med_base.specs.Key.{key_cmp, key_eq}
+use Rattle.med_outside.specs.declared.nodes.RawKey.{RawKey}
+
+pub record Snapshot : Type 0 where
+  -- the bytes of each file
+  pub files : FinMap key_cmp (List ℕ)
+  -- the order in which the keys are listed
+  pub order : List FileKey
+  pub schema : List ℕ
+
+-- a raw key as a key of files, whether or not its parts are components
+abbrev pub raw_name : RawKey → FileKey
+raw_name k = record { keyspace = string_bytes k.keyspace; table = string_bytes k.table; file = string_bytes k.file }
+
+abbrev pub HasKey : FileKey → Snapshot → Type 0
+HasKey key s = IsTrue (contains_key s.files key)
+
+-- the order lists each key that has a file once, and no other
+abbrev pub IsListed : Snapshot → Type 0
+IsListed s = (key : FileKey) → count_by (key_eq key) s.order ≡ (if contains_key s.files key then 1 else 0)

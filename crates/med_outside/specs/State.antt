@@ -1,0 +1,49 @@
+-- What a storage means, but for the contents that stood, and what a call leaves of it.
+use Rattle.std.specs.Prelude.{◌≡◌, ◌⊎◌, ◌≤◌, ℕ, List, [], Option, is_some}
+use Rattle.med_base.specs.Content.{Content}
+use Rattle.med_outside.specs.Effects.{Effect, after_all, IsMoment}
+
+-- what no change of the content touches; only `open` changes it
+pub record Terms : Type 0 where
+  -- what stands before each path of the bucket
+  pub layout : List ℕ
+
+pub record State : Type 0 where
+  -- the objects, where they are told
+  pub content : Option Content
+  -- what `now` answers, where it is told
+  pub second : Option ℕ
+  -- how often a call failed
+  pub faults : ℕ
+  -- how many calls were made that can fail
+  pub step : ℕ
+  pub terms : Terms
+
+-- Exactly these changes were made, in order: the content is the old one with all of them, and
+-- what stood since an earlier step stood before, or is the old one with the first of them.
+-- `past` and `since` are the contents that stood, by the step since which they did.
+pub record Passes (xs : List Effect) (old new : State) (past since : ℕ → Content → Type 0) : Type 0 where
+  pub content : new.content ≡ after_all xs old.content
+  pub told : is_some new.second ≡ is_some old.second
+  pub later : old.step ≤ new.step
+  pub moments : (t : ℕ) (c : Content) → t ≤ old.step → since t c → past t c ⊎ IsMoment xs old.content c
+  pub keeps : (t : ℕ) (c : Content) → t ≤ old.step → past t c → since t c
+
+-- the same, and the terms stay
+pub record Moves (xs : List Effect) (old new : State) (past since : ℕ → Content → Type 0) : Type 0 where
+  pub passes : Passes xs old new past since
+  pub terms : new.terms ≡ old.terms
+
+-- nothing changed, but for the step and the count of faults
+pub record Looks (old new : State) (past since : ℕ → Content → Type 0) : Type 0 where
+  pub moves : Moves [] old new past since
+  pub second : new.second ≡ old.second
+
+abbrev pub with_layout : List ℕ → State → State
+with_layout layout s = record {
+  content = s.content;
+  second = s.second;
+  faults = s.faults;
+  step = s.step;
+  terms = record { layout = layout };
+}

@@ -1,0 +1,17 @@
+//! What a backup meets outside: a storage, nodes with their snapshots, and a sink.
+//!
+//! Each trait says of every call what an answer means, what a refusal leaves, and that a refusal
+//! other than want of memory comes only where a count of faults rose. What an object holds is told
+//! optionally; clauses on contents hold where it is told.
+//! Read `specs/State.antt` and `specs/Storage.antt` first.
+#![tactic(auto)]
+
+mod denied;
+mod nodes;
+mod sink;
+mod storage;
+
+pub use denied::Denied;
+pub use nodes::{Nodes, RawKey, Snap};
+pub use sink::{Sink, SinkFailed};
+pub use storage::{Entry, Stat, Storage};
