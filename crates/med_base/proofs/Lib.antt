@@ -1,3 +1,4 @@
 pub mod Cuts
+pub mod Folders
 pub mod Parts
 pub mod Paths
