@@ -1,0 +1,4 @@
+pub mod Names
+pub mod Nesting
+pub mod Tables
+pub mod WholeLemmas

@@ -1,0 +1,4 @@
+pub mod Manifest
+pub mod Tree
+pub mod Whole
+pub mod Written
