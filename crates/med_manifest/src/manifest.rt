@@ -1,6 +1,7 @@
 // The files of a backup.
 ghost use Rattle.std.specs.Prelude.{◌≡◌, ℕ, List, Some, IfOk, map};
 ghost use Rattle.std.specs.List.{AllByRecursion};
+ghost use Rattle.std.specs.Str.{IsUtf8};
 ghost use Rattle.serde_json.specs.Read.{read};
 ghost use Rattle.med_base.specs.Key.{AreRising, IsKey};
 ghost use Rattle.med_manifest.specs.Written.{manifest_data, manifest_text};
@@ -32,6 +33,7 @@ impl Manifest {
     pub fn write(&self, alloc: Global) -> Result<Vec<u8>, NoMemory>
         requires { AreRising (map (λ r. r.key) self.now.files.items) }
         ensures text { IfOk result (λ text. text.items ≡ manifest_text self.now.files.items) }
+        ensures utf8 { IfOk result (λ text. IsUtf8 text.items) }
         ensures reads_back { IfOk result
             (λ text. read text.items ≡ Some (manifest_data self.now.files.items)) }
         ensures names { IfOk result

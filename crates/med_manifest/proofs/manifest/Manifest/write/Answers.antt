@@ -1,4 +1,6 @@
-use Rattle.std.proofs.Common.{ap, Some, Vec, ℕ, Global, ◌∙◌}
+use Rattle.std.proofs.Common.{ap, subst, sym, Some, Vec, ℕ, Global, ◌∙◌}
+use Rattle.std.specs.Str.{IsUtf8}
+use Rattle.std.proofs.lemmas.Str.{IsUtf8-string_bytes}
 use Rattle.serde_json.specs.Read.{read}
 use Rattle.serde_json.specs.Written.{compact_text}
 use Rattle.med_manifest.specs.Written.{manifest_data}
@@ -12,6 +14,11 @@ returns-clause-text c =
     let text = c.in_ok-text.ensures.text (rw c.in_ok-value.ensures (no_float files)) in
     ap (λ (v : Vec ℕ Global). v.items) c.into_bytes.ensures.value ∙ text
     ∙ ap compact_text (c.in_ok-value.ensures ∙ ap manifest_data c.as_slice.ensures.value)
+
+pub returns-clause-utf8 : goal.returns-clause-utf8
+returns-clause-utf8 c =
+    subst (λ (v : Vec ℕ Global). IsUtf8 v.items) (sym c.into_bytes.ensures.value)
+    (IsUtf8-string_bytes c.in_ok-text.text)
 
 pub returns-clause-reads_back : goal.returns-clause-reads_back
 returns-clause-reads_back c =
