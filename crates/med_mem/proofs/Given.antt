@@ -1,0 +1,71 @@
+-- What stands for a root, a node and a tag once one more was added.
+use Rattle.std.proofs.Common.{◌≡◌, ◌∙◌, ◌&&◌, Bool, true, false, cond, ℕ, List, [], ◌∷◌, ◌++◌, Option, Some, None, IfSome, refl, sym, ap}
+use Rattle.std.specs.Option.{option_or}
+use Rattle.std.proofs.lemmas.Slice.Eq.{bytes_eq-Decides}
+use Rattle.med_outside.specs.Snapshot.{Snapshot}
+use Rattle.med_mem.specs.Snaps.{Given, is_for, first_for, snapshot_with}
+
+all_true : (a b c : Bool) → a ≡ true → b ≡ true → c ≡ true → ((a && b) && c) ≡ true
+all_true a b c p q r = cc
+
+each_true : (a b c : Bool) → ((a && b) && c) ≡ true → (a ≡ true) × (b ≡ true) × (c ≡ true)
+each_true true true c e = (refl, refl, e)
+each_true true false c e = absurd (cc)
+each_true false b c e = absurd (cc)
+
+module _ (root node tag : List ℕ) where
+  is_for_own : (g : Given) → g.root ≡ root → g.node ≡ node → g.tag ≡ tag → is_for root node tag g ≡ true
+  is_for_own g r n t =
+      all_true _ _ _ ((bytes_eq-Decides g.root root).1 r) ((bytes_eq-Decides g.node node).1 n) ((bytes_eq-Decides g.tag tag).1 t)
+
+  own_parts : (g : Given) → is_for root node tag g ≡ true → (g.root ≡ root) × (g.node ≡ node) × (g.tag ≡ tag)
+  own_parts g is =
+      let parts = each_true _ _ _ is in
+      ((bytes_eq-Decides g.root root).0 parts.0, (bytes_eq-Decides g.node node).0 parts.1, (bytes_eq-Decides g.tag tag).0 parts.2)
+
+  own : Given → Option Snapshot
+  own g = cond (is_for root node tag g) (Some (snapshot_with g.files g.schema)) None
+
+  past : (b : Bool) (s : Snapshot) (o p : Option Snapshot) → cond b (Some s) (option_or o p) ≡ option_or (cond b (Some s) o) p
+  past true s o p = refl
+  past false s o p = refl
+
+  first_more : (gs : List Given) (g : Given) → first_for root node tag (gs ++ g ∷ []) ≡ option_or (first_for root node tag gs) (own g)
+  unfolding own
+  first_more [] g = refl
+  first_more (h ∷ gs) g =
+      ap (λ o. cond (is_for root node tag h) (Some (snapshot_with h.files h.schema)) o) (first_more gs g)
+      ∙ past (is_for root node tag h) (snapshot_with h.files h.schema) (first_for root node tag gs) (own g)
+
+  -- where nothing was added before
+  pub added_here : (gs : List Given) (g : Given) → g.root ≡ root → g.node ≡ node → g.tag ≡ tag
+      → first_for root node tag gs ≡ None → first_for root node tag (gs ++ g ∷ []) ≡ Some (snapshot_with g.files g.schema)
+  unfolding own
+  added_here gs g r n t none =
+      first_more gs g
+      ∙ ap (λ o. option_or o (own g)) none
+      ∙ ap (λ b. cond b (Some (snapshot_with g.files g.schema)) None) (is_for_own g r n t)
+
+  -- the first that was added counts
+  pub added_before : (gs : List Given) (g : Given) → IfSome (first_for root node tag gs) (λ s. first_for root node tag (gs ++ g ∷ []) ≡ Some s)
+  added_before gs g = go (first_for root node tag gs) (first_more gs g)
+    where
+      go : (o : Option Snapshot) → first_for root node tag (gs ++ g ∷ []) ≡ option_or o (own g) → IfSome o (λ s. first_for root node tag (gs ++ g ∷ []) ≡ Some s)
+      go None e = tt
+      go (Some s) e = e
+
+  nothing_more : (o : Option Snapshot) → option_or o None ≡ o
+  nothing_more None = refl
+  nothing_more (Some s) = refl
+
+  -- one that was added for others
+  pub added_elsewhere : (gs : List Given) (g : Given) → ¬ ((root ≡ g.root) × (node ≡ g.node) × (tag ≡ g.tag)) → first_for root node tag (gs ++ g ∷ []) ≡ first_for root node tag gs
+  unfolding own
+  added_elsewhere gs g other = go (is_for root node tag g) refl
+    where
+      go : (b : Bool) → is_for root node tag g ≡ b → first_for root node tag (gs ++ g ∷ []) ≡ first_for root node tag gs
+      go true is = let parts = own_parts g is in absurd (other (sym parts.0, sym parts.1, sym parts.2))
+      go false is =
+          first_more gs g
+          ∙ ap (λ b. option_or (first_for root node tag gs) (cond b (Some (snapshot_with g.files g.schema)) None)) is
+          ∙ nothing_more (first_for root node tag gs)

@@ -1,0 +1,14 @@
+use Rattle.std.proofs.Common.{◌∙◌, ◌<◌, sym, ap, length, add-one}
+use Rattle.std.specs.Ordering.{nat_cmp}
+use Rattle.std.specs.Cmp.Lexicographic.{slice_cmp}
+use Rattle.med_mem.specs.declared.object.MemObject.{MemObject}
+use Rattle.med_mem.proofs.Places.{next_place, path_of}
+use Rattle.med_mem.proofs.object.place_of.Goals as goal
+
+pub loop-i-preserved : goal.loop-i-preserved
+loop-i-preserved c =
+    let lt : c.loop-i.i < length c.args.objects.now = c.loop-i-test.true in
+    let item = c.index-objects-i.result in
+    let path = ap (λ (o : MemObject). o.path) c.index-objects-i.is ∙ path_of c.args.objects.now c.loop-i.i item lt in
+    let above = ap (slice_cmp nat_cmp c.args.path.now) (sym (c.as_str.ensures ∙ path)) ∙ sym c.in-Greater.ensures in
+    λ v. rw add-one (next_place _ _ _ v lt above ∙ c.loop-i.invariant v)

@@ -1,0 +1,7 @@
+pub mod Told
+pub mod ToldLaws
+pub mod Objects
+pub mod Distinct
+pub mod Snaps
+pub mod OrderLaw
+pub mod Taken

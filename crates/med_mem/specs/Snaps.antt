@@ -1,0 +1,83 @@
+-- What snapshots in memory hold.
+use Rattle.std.specs.Prelude.{ℕ, Bool, ◌&&◌, List, [], ◌∷◌, map, Option, Some, None, string_bytes, if◌then◌else◌}
+use Rattle.std.specs.FinMap.{from_entries, empty}
+use Rattle.std.specs.Map.{keys_of}
+use Rattle.std.specs.Str.{bytes_eq}
+use Rattle.med_base.specs.declared.key.FileKey.{FileKey}
+use Rattle.med_base.specs.Key.{key_eq}
+use Rattle.med_outside.specs.Snapshot.{Snapshot, raw_name}
+use Rattle.med_mem.specs.Distinct.{distinct}
+use Rattle.med_mem.specs.declared.snapshot.MemFile.{MemFile}
+use Rattle.med_mem.specs.declared.snapshot.MemSnap.{MemSnap}
+use Rattle.med_mem.specs.declared.nodes.Added.{Added}
+
+-- the keys, and the bytes of each
+abbrev pub files_of : List MemFile → List (FileKey × List ℕ)
+files_of = map (λ (f : MemFile). (raw_name f.key, f.bytes.items))
+
+-- of two files with one key the first counts, and its key is listed once
+abbrev pub snapshot_with : List (FileKey × List ℕ) → List ℕ → Snapshot
+snapshot_with files schema = record {
+  files = from_entries files;
+  order = distinct key_eq (keys_of files);
+  schema = schema;
+}
+
+abbrev pub snapshot_of : MemSnap → Snapshot
+snapshot_of s = snapshot_with (files_of s.files.items) s.schema.items
+
+abbrev pub no_snapshot : Snapshot
+no_snapshot = record { files = empty; order = []; schema = [] }
+
+-- a snapshot, and the root, node and tag that it was added for
+pub record Given : Type 0 where
+  pub root : List ℕ
+  pub node : List ℕ
+  pub tag : List ℕ
+  pub files : List (FileKey × List ℕ)
+  pub schema : List ℕ
+
+-- what a contract sees of nodes in memory
+pub record Known : Type 0 where
+  -- what was added, in order
+  pub given : List Given
+  -- how often a call failed
+  pub faults : ℕ
+
+abbrev pub is_for : List ℕ → List ℕ → List ℕ → Given → Bool
+is_for root node tag g = (bytes_eq g.root root && bytes_eq g.node node) && bytes_eq g.tag tag
+
+-- the first that was added for them
+abbrev pub first_for : List ℕ → List ℕ → List ℕ → List Given → Option Snapshot
+first_for root node tag [] = None
+first_for root node tag (g ∷ gs) = if is_for root node tag g then Some (snapshot_with g.files g.schema) else first_for root node tag gs
+
+-- what was added for a root, a node and a tag
+abbrev pub added_for : List ℕ → List ℕ → List ℕ → Known → Option Snapshot
+added_for root node tag m = first_for root node tag m.given
+
+-- where nothing was added there are no files
+abbrev pub or_nothing : Option Snapshot → Snapshot
+or_nothing None = no_snapshot
+or_nothing (Some s) = s
+
+-- what the trait tells of them
+abbrev pub snapshot_at : Known → List ℕ → List ℕ → List ℕ → Snapshot
+snapshot_at m root node tag = or_nothing (added_for root node tag m)
+
+-- ---- for this crate's own clauses
+
+abbrev pub given_for : List ℕ → List ℕ → List ℕ → MemSnap → Given
+given_for root node tag s = record {
+  root = root;
+  node = node;
+  tag = tag;
+  files = files_of s.files.items;
+  schema = s.schema.items;
+}
+
+abbrev pub given_as : Added → Given
+given_as a = given_for (string_bytes a.root) (string_bytes a.node) (string_bytes a.tag) a.snap
+
+abbrev pub given : List Added → List Given
+given = map given_as

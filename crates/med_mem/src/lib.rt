@@ -1,0 +1,21 @@
+//! The outside in memory: a storage, nodes with snapshots, and a sink.
+//!
+//! Each is a full implementation of its trait in `med_outside`, and tells all that it holds. The
+//! storage keeps a record of its changes, from which the contents that stood follow.
+//! Read `specs/Told.antt` and `specs/Snaps.antt` first.
+#![tactic(auto)]
+
+mod nodes;
+mod object;
+mod sink;
+mod snapshot;
+mod store;
+
+pub use nodes::MemNodes;
+pub use object::MemObject;
+pub use sink::MemSink;
+pub use snapshot::{MemFile, MemOpened, MemSnap};
+pub use store::MemStore;
+
+#[cfg(test)]
+mod tests;

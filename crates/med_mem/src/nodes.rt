@@ -1,0 +1,132 @@
+// Nodes in memory, with the snapshots that were added to them.
+ghost use Rattle.std.specs.Prelude.{◌≡◌, ◌<◌, [], List, ℕ, Some, None, IfOk, IfSome, OnOk, OnErr, MatchOption, length};
+ghost use Rattle.med_mem.specs.Snaps.{snapshot_of, added_for, is_for, first_for, given, given_as, given_for};
+
+use crate::snapshot::{MemOpened, MemSnap};
+use med_base::{Fqdn, NoMemory};
+use med_outside::{Denied, Nodes};
+use std::alloc::Global;
+use std::marker::Model;
+
+/// A snapshot, and what it was added for.
+#[derive(Debug, Drop)]
+pub(crate) struct Added {
+    root: String,
+    node: String,
+    tag: String,
+    snap: MemSnap,
+}
+
+/// Nodes in memory. No call of them fails.
+#[derive(Debug, Drop)]
+pub struct MemNodes {
+    snaps: Vec<Added>,
+    faults: u64,
+}
+
+impl Model for MemNodes {
+    ghost use Rattle.med_mem.specs.Snaps.{Known, given};
+
+    ghost Value = { Known };
+
+    ghost view = { λ m. record { given = given m.snaps.items; faults = m.faults } };
+}
+
+impl MemNodes {
+    /// Nodes without a snapshot. It takes no memory.
+    pub fn new(alloc: Global) -> MemNodes
+        ensures { result ≡ record { given = []; faults = 0 } }
+    {
+        MemNodes {
+            snaps: Vec::new(alloc),
+            faults: 0,
+        }
+    }
+
+    /// Adds the snapshot of a node with a tag under a root. The first that was added for the three
+    /// counts.
+    pub fn add(
+        &mut self,
+        alloc: Global,
+        root: &str,
+        node: &str,
+        tag: &str,
+        snap: MemSnap,
+    ) -> Result<(), NoMemory>
+        ensures here { OnOk result (added_for root.now node.now tag.now self.old ≡ None → added_for root.now node.now tag.now self.new ≡ Some (snapshot_of snap)) }
+        ensures before { (r n t : List ℕ) → IfSome (added_for r n t self.old) (λ s. added_for r n t self.new ≡ Some s) }
+        ensures elsewhere { (r n t : List ℕ) → ¬ ((r ≡ root.now) × (n ≡ node.now) × (t ≡ tag.now)) → added_for r n t self.new ≡ added_for r n t self.old }
+        ensures err { OnErr result (self.new ≡ self.old) }
+        ensures faults { self.new.faults ≡ self.old.faults }
+    {
+        let added = new_added(alloc, root, node, tag, snap)?;
+        self.snaps.push(added)?;
+        Ok(())
+    }
+}
+
+fn new_added(
+    alloc: Global,
+    root: &str,
+    node: &str,
+    tag: &str,
+    snap: MemSnap,
+) -> Result<Added, NoMemory>
+    ensures { IfOk result (λ added. given_as added ≡ given_for root.now node.now tag.now snap) }
+{
+    let root = String::from_str(alloc, root)?;
+    let node = String::from_str(alloc, node)?;
+    let tag = String::from_str(alloc, tag)?;
+    Ok(Added {
+        root,
+        node,
+        tag,
+        snap,
+    })
+}
+
+fn is_added_for(added: &Added, root: &str, node: &str, tag: &str) -> bool
+    ensures { result ≡ is_for root.now node.now tag.now (given_as added.now) }
+{
+    added.root.as_str() == root && added.node.as_str() == node && added.tag.as_str() == tag
+}
+
+// The first that was added for the three.
+fn find_added<'a>(snaps: &'a [Added], root: &str, node: &str, tag: &str) -> Option<&'a MemSnap>
+    ensures { MatchOption result (first_for root.now node.now tag.now (given snaps.now) ≡ None) (λ snap. first_for root.now node.now tag.now (given snaps.now) ≡ Some (snapshot_of snap.now)) }
+{
+    for added in snaps {
+        if is_added_for(added, root, node, tag) {
+            return Some(&added.snap);
+        }
+    }
+    None
+}
+
+impl Nodes for MemNodes {
+    ghost use Rattle.std.specs.Prelude.{Some};
+    ghost use Rattle.med_mem.specs.Snaps.{snapshot_at};
+
+    type Snap = MemOpened;
+
+    ghost snaps = { λ m root node tag. Some (snapshot_at m root node tag) };
+
+    ghost faults = { λ m. m.faults };
+
+    fn open(
+        &mut self,
+        alloc: Global,
+        root: &str,
+        node: &Fqdn,
+        tag: &str,
+    ) -> Result<MemOpened, Denied> {
+        match find_added(self.snaps.as_slice(), root, node.as_str(), tag) {
+            Some(snap) => Ok(MemOpened::of(alloc, snap)?),
+            None => Ok(MemOpened::empty(alloc)),
+        }
+    }
+
+    fn close(&mut self, snap: MemOpened) {
+        self.faults = self.faults.saturating_add(snap.faults());
+    }
+}

@@ -1,0 +1,167 @@
+// A storage in memory. It keeps a record of its changes, which tells the contents that stood.
+ghost use Rattle.std.specs.Prelude.{◌≡◌, [], IfOk, IfSome, OnOk, OnErr, IsErrOf, MatchResult};
+ghost use Rattle.std.specs.FinMap.{entries};
+ghost use Rattle.med_base.specs.Content.{with_object};
+ghost use Rattle.med_outside.specs.Causes.{HasCause};
+ghost use Rattle.med_outside.specs.State.{Moves, Looks, with_layout};
+ghost use Rattle.med_outside.specs.Storage.{IsToldAs, Put, MayPut, listing};
+ghost use Rattle.med_outside.specs.declared.denied.Denied.TheVariants.{Failed, Memory};
+ghost use Rattle.med_mem.specs.Objects.{pairs};
+ghost use Rattle.med_mem.specs.Told.{content_of, state_of, stood_since_of, with_added, with_clock, Ticks, Rests};
+
+use crate::MemObject;
+use crate::object::{Change, copy_objects, list_under, put_object};
+use med_base::{Layout, NoMemory, ObjPath};
+use med_outside::{Denied, Entry, Storage};
+use std::alloc::Global;
+use std::marker::Model;
+
+/// A storage in memory. A call fails only where the number of calls is at its last value.
+#[derive(Debug, Drop)]
+pub struct MemStore {
+    objects: Vec<MemObject>,
+    changes: Vec<Change>,
+    clock: u64,
+    tick: u64,
+    calls: u64,
+    faults: u64,
+    layout: Layout,
+}
+
+impl Model for MemStore {
+    ghost use Rattle.med_mem.specs.Told.{Told};
+    ghost use Rattle.med_mem.specs.Objects.{noted, Tells};
+
+    ghost Value = { Told };
+
+    ghost view = { λ m. record { notes = noted m.changes.items; clock = m.clock; tick = m.tick; calls = m.calls; faults = m.faults; layout = m.layout } };
+
+    ghost invariant = { λ m. Tells m.objects.items m.changes.items m.calls };
+}
+
+impl MemStore {
+    /// A store without objects and faults, under the layout of the empty prefix. `now` begins at
+    /// the clock, in seconds, and each put that takes effect adds a tick to it afterwards, up to
+    /// the last value. It takes no memory.
+    pub fn new(alloc: Global, clock: u64, tick: u64) -> MemStore
+        ensures { result ≡ record { notes = []; clock = clock; tick = tick; calls = 0; faults = 0; layout = [] } }
+    {
+        MemStore {
+            objects: Vec::new(alloc),
+            changes: Vec::new(alloc),
+            clock,
+            tick,
+            calls: 0,
+            faults: 0,
+            layout: Layout::plain(alloc),
+        }
+    }
+
+    /// Puts an object there, in place of one that was there. It is no call of the trait: it can't
+    /// fail, and no tick is added. It counts with the call before it: the content without the
+    /// object stood before that call's step ended, and since that step stood the one with it. In
+    /// a store without calls the object was there from the start.
+    pub fn add(
+        &mut self,
+        alloc: Global,
+        path: ObjPath,
+        bytes: Vec<u8>,
+        second: u64,
+    ) -> Result<(), NoMemory>
+        ensures content { OnOk result (content_of self.new ≡ with_object path bytes.items second (content_of self.old)) }
+        ensures ok { OnOk result (self.new ≡ with_added path bytes.items second self.old) }
+        ensures err { OnErr result (self.new ≡ self.old) }
+    {
+        put_object(
+            alloc,
+            &mut self.objects,
+            &mut self.changes,
+            self.calls,
+            &path,
+            bytes.as_slice(),
+            second,
+        )?;
+        Ok(())
+    }
+
+    /// Sets what `now` answers.
+    pub fn set_now(&mut self, clock: u64)
+        ensures { self.new ≡ with_clock clock self.old }
+    {
+        self.clock = clock;
+    }
+
+    /// The objects, in byte order of their paths.
+    pub fn content(&self, alloc: Global) -> Result<Vec<MemObject>, NoMemory>
+        ensures { IfOk result (λ objects. pairs objects.items ≡ entries (content_of self.now)) }
+    {
+        copy_objects(alloc, self.objects.as_slice())
+    }
+}
+
+impl Storage for MemStore {
+    ghost use Rattle.med_mem.specs.Told.{state_of, stood_since_of};
+    ghost use Rattle.med_mem.specs.ToldLaws.{counts_now_of, only_now_of};
+
+    ghost state = { state_of };
+
+    ghost stood_since = { stood_since_of };
+
+    ghost counts_now = { λ m t c _ e. counts_now_of m t c e };
+
+    ghost only_now = { only_now_of };
+
+    fn open(
+        &mut self,
+        alloc: Global,
+        _base: &str,
+        _bucket: &str,
+        prefix: &Layout,
+    ) -> Result<(), Denied> {
+        let Some(calls) = self.calls.checked_add(1) else {
+            self.faults = self.faults.saturating_add(1);
+            return Err(Denied::Failed);
+        };
+        self.calls = calls;
+        match prefix.copy(alloc) {
+            Ok(layout) => {
+                self.layout = layout;
+                Ok(())
+            }
+            Err(NoMemory) => Err(Denied::Memory),
+        }
+    }
+
+    fn now(&mut self) -> u64 {
+        self.clock
+    }
+
+    fn put(&mut self, alloc: Global, path: &ObjPath, bytes: &[u8]) -> Result<u64, Denied> {
+        let Some(calls) = self.calls.checked_add(1) else {
+            self.faults = self.faults.saturating_add(1);
+            return Err(Denied::Failed);
+        };
+        self.calls = calls;
+        let second = self.clock;
+        put_object(
+            alloc,
+            &mut self.objects,
+            &mut self.changes,
+            calls,
+            path,
+            bytes,
+            second,
+        )?;
+        self.clock = second.saturating_add(self.tick);
+        Ok(second)
+    }
+
+    fn list(&mut self, alloc: Global, under: &str) -> Result<Vec<Entry>, Denied> {
+        let Some(calls) = self.calls.checked_add(1) else {
+            self.faults = self.faults.saturating_add(1);
+            return Err(Denied::Failed);
+        };
+        self.calls = calls;
+        Ok(list_under(alloc, self.objects.as_slice(), under)?)
+    }
+}
