@@ -1,5 +1,5 @@
 pub mod Moments
 pub mod Places
-pub mod Listed
 pub mod Keys
 pub mod Given
+pub mod FirstKey

@@ -81,12 +81,7 @@ cut_more (y ∷ old) (x ∷ first) later n e =
       | inr (rest, is, cut) ↦ inr (rest, is, λ i. sym head i ∷ cut i)
     ]
 
--- what came after t came so by one call more
-later_call : (later : List Note) (calls next t : ℕ) → calls ≤ next → ComesAfter calls t later → ComesAfter next t later
-later_call [] calls next t le after = tt
-later_call (n ∷ later) calls next t le after = let less : t < calls = after.1 in (after.0, omega arith)
-
--- and the other way, as no change was made in a later call
+-- what came after t by one call more came so, as no change was made in a later call
 earlier_call : (later : List Note) (calls next t : ℕ) → IsTrue (are_made_by calls later) → ComesAfter next t later → ComesAfter calls t later
 earlier_call [] calls next t by after = tt
 earlier_call (n ∷ later) calls next t by after =
@@ -101,33 +96,6 @@ later_change (m ∷ later) n calls next t less within le after = (after.0, withi
 before_change : (rest : List Note) (n : Note) (calls next t : ℕ) → IsTrue (are_made_by calls rest) → ComesAfter next t (rest ++ n ∷ []) → ComesAfter calls t rest
 before_change [] n calls next t by after = tt
 before_change (m ∷ rest) n calls next t by after = earlier_call (m ∷ rest) calls next t by after
-
--- a call that changes nothing
-pub no_change : (notes : List Note) (calls next : ℕ) (s0 s1 : State) → next ≡ calls + 1 → IsTrue (are_made_by calls notes)
-    → s0.content ≡ Some (content_after notes) → s1.content ≡ Some (content_after notes) → s0.step ≡ calls → s1.step ≡ next
-    → is_some s1.second ≡ is_some s0.second → s1.terms ≡ s0.terms → Moves [] s0 s1 (StoodSince notes calls) (StoodSince notes next)
-no_change notes calls next s0 s1 one by is0 is1 at0 at1 told terms = record {
-  passes = record {
-    content = is1 ∙ ap (after_all []) (sym is0);
-    told = told;
-    later = omega arith;
-    moments = λ t c le s. inl record {
-      first = s.first;
-      later = s.later;
-      split = s.split;
-      held = s.held;
-      ended = earlier_call s.later calls next t (made_end s.first s.later calls (rw s.split at by)) s.ended;
-    };
-    keeps = λ t c le s. record {
-      first = s.first;
-      later = s.later;
-      split = s.split;
-      held = s.held;
-      ended = later_call s.later calls next t (omega arith) s.ended;
-    };
-  };
-  terms = terms;
-}
 
 -- a call that makes one change
 pub one_change : (old new : List Note) (n : Note) (calls next : ℕ) (s0 s1 : State) → new ≡ old ++ n ∷ [] → next ≡ calls + 1 → n.call ≡ next

@@ -26,6 +26,16 @@ snapshot_with files schema = record {
 abbrev pub snapshot_of : MemSnap → Snapshot
 snapshot_of s = snapshot_with (files_of s.files.items) s.schema.items
 
+-- what a contract sees of a snapshot that was opened
+pub record Opened : Type 0 where
+  pub files : List (FileKey × List ℕ)
+  pub schema : List ℕ
+  -- how often a call failed
+  pub faults : ℕ
+
+abbrev pub held_by : Opened → Snapshot
+held_by s = snapshot_with s.files s.schema
+
 abbrev pub no_snapshot : Snapshot
 no_snapshot = record { files = empty; order = []; schema = [] }
 

@@ -5,7 +5,7 @@ use Rattle.std.specs.List.{list_all}
 use Rattle.std.specs.FinMap.{empty}
 use Rattle.med_base.specs.Content.{Content}
 use Rattle.med_outside.specs.Effects.{Effect, Stores, applied}
-use Rattle.med_outside.specs.State.{State}
+use Rattle.med_outside.specs.State.{State, Looks}
 
 -- a change, and how many calls that can fail had been made by then, its own among them
 pub record Note : Type 0 where
@@ -91,6 +91,14 @@ with_clock clock m = record {
   faults = m.faults;
   layout = m.layout;
 }
+
+-- no call more could be counted
+abbrev pub IsFull : Told → Type 0
+IsFull m = m.calls ≡ 2 ^ 64 - 1
+
+-- nothing changed but the number of calls and the count of faults, in the words of the trait
+abbrev pub Stays : Told → Told → Type 0
+Stays old new = Looks (state_of old) (state_of new) (stood_since_of old) (stood_since_of new)
 
 -- the clock went on by one tick, up to the last value of a 64-bit counter
 pub record Ticks (old new : Told) : Type 0 where

@@ -1,6 +1,7 @@
 // Nodes in memory, with the snapshots that were added to them.
-ghost use Rattle.std.specs.Prelude.{◌≡◌, ◌<◌, [], List, ℕ, Some, None, IfOk, IfSome, OnOk, OnErr, MatchOption, length};
-ghost use Rattle.med_mem.specs.Snaps.{snapshot_of, added_for, is_for, first_for, given, given_as, given_for};
+ghost use Rattle.std.specs.Prelude.{◌≡◌, [], List, ℕ, Some, None, IfOk, IfErr, IfSome, OnOk, OnErr, MatchOption, ◌≤◌, ◌+◌, ◌-◌, ◌^◌, min};
+ghost use Rattle.med_outside.specs.declared.denied.Denied.TheVariants.{Memory};
+ghost use Rattle.med_mem.specs.Snaps.{snapshot_of, snapshot_at, held_by, added_for, is_for, first_for, given, given_as, given_for};
 
 use crate::snapshot::{MemOpened, MemSnap};
 use med_base::{Fqdn, NoMemory};
@@ -119,14 +120,23 @@ impl Nodes for MemNodes {
         root: &str,
         node: &Fqdn,
         tag: &str,
-    ) -> Result<MemOpened, Denied> {
+    ) -> Result<MemOpened, Denied>
+        ensures held { IfOk result (λ snap. held_by snap ≡ snapshot_at self.old root.now node.now tag.now) }
+        ensures fresh { IfOk result (λ snap. snap.faults ≡ 0) }
+        ensures same { self.new ≡ self.old }
+        ensures err { IfErr result (λ e. e ≡ Denied.Memory) }
+    {
         match find_added(self.snaps.as_slice(), root, node.as_str(), tag) {
             Some(snap) => Ok(MemOpened::of(alloc, snap)?),
             None => Ok(MemOpened::empty(alloc)),
         }
     }
 
-    fn close(&mut self, snap: MemOpened) {
+    fn close(&mut self, snap: MemOpened)
+        ensures same { self.new.given ≡ self.old.given }
+        ensures later { self.old.faults ≤ self.new.faults }
+        ensures faults { self.new.faults ≡ min (self.old.faults + snap.faults) (2 ^ 64 - 1) }
+    {
         self.faults = self.faults.saturating_add(snap.faults());
     }
 }

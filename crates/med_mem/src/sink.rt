@@ -1,8 +1,6 @@
 // A sink that keeps what it takes, up to a limit.
-ghost use Rattle.std.specs.Prelude.{◌≡◌, ◌≤◌, ◌<◌, [], Ok, IfOk, OnErr, length, min};
-ghost use Rattle.med_outside.specs.Causes.{Rose};
-ghost use Rattle.med_outside.specs.Sink.{Takes};
-ghost use Rattle.med_mem.specs.Taken.{room_of};
+ghost use Rattle.std.specs.Prelude.{◌≡◌, ◌≤◌, ◌<◌, [], Ok, IfOk, OnErr, length, min, take};
+ghost use Rattle.med_mem.specs.Taken.{room_of, with_more, with_fault};
 
 use med_base::NoMemory;
 use med_outside::{Sink, SinkFailed};
@@ -20,11 +18,11 @@ pub struct MemSink {
 impl Model for MemSink {
     ghost use Rattle.std.specs.Prelude.{◌≤◌, length};
     ghost use Rattle.std.specs.Vec.{vec_capacity};
-    ghost use Rattle.med_mem.specs.Taken.{Held};
+    ghost use Rattle.med_mem.specs.Taken.{Taken};
 
-    ghost Value = { Held };
+    ghost Value = { Taken };
 
-    ghost view = { λ s. record { taken = s.taken.items; limit = s.limit; faults = s.faults } };
+    ghost view = { λ s. record { bytes = s.taken.items; limit = s.limit; faults = s.faults } };
 
     ghost invariant = { λ s. (length s.taken.items ≤ s.limit) × (s.limit ≤ vec_capacity s.taken) };
 }
@@ -32,7 +30,7 @@ impl Model for MemSink {
 impl MemSink {
     /// A sink that takes at most so many bytes, with the memory for them.
     pub fn new(alloc: Global, limit: usize) -> Result<MemSink, NoMemory>
-        ensures { IfOk result (λ sink. sink ≡ record { taken = []; limit = limit; faults = 0 }) }
+        ensures { IfOk result (λ sink. sink ≡ record { bytes = []; limit = limit; faults = 0 }) }
     {
         let taken = Vec::with_capacity(alloc, limit)?;
         Ok(MemSink {
@@ -44,8 +42,8 @@ impl MemSink {
 
     /// The bytes that it has taken.
     pub fn bytes(&self) -> &[u8]
-        ensures value { result.now ≡ self.now.taken }
-        ensures bound { length self.now.taken ≤ self.now.limit }
+        ensures value { result.now ≡ self.now.bytes }
+        ensures bound { length self.now.bytes ≤ self.now.limit }
     {
         self.taken.as_slice()
     }
@@ -54,11 +52,18 @@ impl MemSink {
 impl Sink for MemSink {
     ghost use Rattle.std.specs.Prelude.{Some};
 
-    ghost taken = { λ s. Some s.taken };
+    ghost taken = { λ s. Some s.bytes };
 
     ghost faults = { λ s. s.faults };
 
-    fn write(&mut self, bytes: &[u8]) -> Result<usize, SinkFailed> {
+    fn write(&mut self, bytes: &[u8]) -> Result<usize, SinkFailed>
+        ensures count { IfOk result (λ n. n ≡ min (length bytes.now) (room_of self.old)) }
+        ensures ok { IfOk result (λ n. self.new ≡ with_more (take n bytes.now) self.old) }
+        ensures some { result ≡ Ok 0 → length bytes.now ≡ 0 }
+        ensures full { OnErr result ((room_of self.old ≡ 0) × (0 < length bytes.now)) }
+        ensures err { OnErr result (self.new ≡ with_fault self.old) }
+        ensures later { self.old.faults ≤ self.new.faults }
+    {
         let room = self.limit - self.taken.as_slice().len();
         let count = bytes.len().min(room);
         if count == 0 && !bytes.is_empty() {

@@ -1,17 +1,19 @@
 // A snapshot in memory.
-ghost use Rattle.std.specs.Prelude.{◌≡◌, Some, IsSome, IfOk, map};
+ghost use Rattle.std.specs.Prelude.{◌≡◌, [], Some, IsSome, IfOk, IfErr, map};
 ghost use Rattle.std.specs.List.{list_any};
 ghost use Rattle.std.specs.Map.{keys_of};
-ghost use Rattle.std.specs.FinMap.{find};
+ghost use Rattle.std.specs.FinMap.{find, get};
 ghost use Rattle.med_base.specs.Key.{key_cmp, key_eq};
-ghost use Rattle.med_outside.specs.Snapshot.{raw_name};
+ghost use Rattle.med_outside.specs.Snapshot.{raw_name, HasKey};
 ghost use Rattle.med_mem.specs.Distinct.{distinct};
-ghost use Rattle.med_mem.specs.Snaps.{files_of, snapshot_of, no_snapshot};
+ghost use Rattle.med_mem.specs.Snaps.{files_of, held_by};
+ghost use Rattle.med_outside.specs.declared.denied.Denied.TheVariants.{Memory};
 
 use med_base::{FileKey, NoMemory};
 use med_outside::{Denied, RawKey, Snap};
 use std::alloc::Global;
 use std::cmp::Ordering;
+use std::marker::Model;
 
 /// A file of a snapshot.
 #[derive(Debug, Drop)]
@@ -114,10 +116,18 @@ fn read_file(alloc: Global, files: &[MemFile], key: &FileKey) -> Result<Vec<u8>,
     Ok(Vec::new(alloc))
 }
 
+impl Model for MemOpened {
+    ghost use Rattle.med_mem.specs.Snaps.{Opened, files_of};
+
+    ghost Value = { Opened };
+
+    ghost view = { λ s. record { files = files_of s.snap.files.items; schema = s.snap.schema.items; faults = s.faults } };
+}
+
 impl MemOpened {
     /// A snapshot that holds the same.
     pub(crate) fn of(alloc: Global, snap: &MemSnap) -> Result<MemOpened, NoMemory>
-        ensures { IfOk result (λ opened. (snapshot_of opened.snap ≡ snapshot_of snap.now) × (opened.faults ≡ 0)) }
+        ensures { IfOk result (λ opened. opened ≡ record { files = files_of snap.now.files.items; schema = snap.now.schema.items; faults = 0 }) }
     {
         let files = copy_files(alloc, snap.files.as_slice())?;
         let schema = snap.schema.as_slice().to_vec(alloc)?;
@@ -129,7 +139,7 @@ impl MemOpened {
 
     /// A snapshot without files.
     pub(crate) fn empty(alloc: Global) -> MemOpened
-        ensures { (snapshot_of result.snap ≡ no_snapshot) × (result.faults ≡ 0) }
+        ensures { result ≡ record { files = []; schema = []; faults = 0 } }
     {
         MemOpened {
             snap: MemSnap {
@@ -149,24 +159,37 @@ impl MemOpened {
 
 impl Snap for MemOpened {
     ghost use Rattle.std.specs.Prelude.{Some};
-    ghost use Rattle.med_mem.specs.Snaps.{files_of, snapshot_of};
+    ghost use Rattle.med_mem.specs.Snaps.{held_by};
     ghost use Rattle.med_mem.specs.OrderLaw.{listed_once_of};
 
-    ghost held = { λ s. Some (snapshot_of s.snap) };
+    ghost held = { λ s. Some (held_by s) };
 
     ghost faults = { λ s. s.faults };
 
-    ghost listed_once = { λ s. listed_once_of (files_of s.snap.files.items) s.snap.schema.items };
+    ghost listed_once = { λ s. listed_once_of s.files s.schema };
 
-    fn keys(&mut self, alloc: Global) -> Result<Vec<RawKey>, Denied> {
+    fn keys(&mut self, alloc: Global) -> Result<Vec<RawKey>, Denied>
+        ensures keys { IfOk result (λ keys. map raw_name keys.items ≡ distinct key_eq (keys_of self.old.files)) }
+        ensures same { self.new ≡ self.old }
+        ensures err { IfErr result (λ e. e ≡ Denied.Memory) }
+    {
         Ok(list_keys(alloc, self.snap.files.as_slice())?)
     }
 
-    fn read(&mut self, alloc: Global, key: &FileKey) -> Result<Vec<u8>, Denied> {
+    fn read(&mut self, alloc: Global, key: &FileKey) -> Result<Vec<u8>, Denied>
+        requires { HasKey key.now (held_by self.old) }
+        ensures bytes { IfOk result (λ bytes. get (held_by self.old).files key.now ≡ Some bytes.items) }
+        ensures same { self.new ≡ self.old }
+        ensures err { IfErr result (λ e. e ≡ Denied.Memory) }
+    {
         Ok(read_file(alloc, self.snap.files.as_slice(), key)?)
     }
 
-    fn schema(&mut self, alloc: Global) -> Result<Vec<u8>, Denied> {
+    fn schema(&mut self, alloc: Global) -> Result<Vec<u8>, Denied>
+        ensures bytes { IfOk result (λ bytes. bytes.items ≡ self.old.schema) }
+        ensures same { self.new ≡ self.old }
+        ensures err { IfErr result (λ e. e ≡ Denied.Memory) }
+    {
         Ok(self.snap.schema.as_slice().to_vec(alloc)?)
     }
 }

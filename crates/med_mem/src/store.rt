@@ -1,13 +1,13 @@
 // A storage in memory. It keeps a record of its changes, which tells the contents that stood.
-ghost use Rattle.std.specs.Prelude.{◌≡◌, [], IfOk, IfSome, OnOk, OnErr, IsErrOf, MatchResult};
+ghost use Rattle.std.specs.Prelude.{◌≡◌, [], IfOk, OnOk, OnErr, IsErrOf, MatchResult};
 ghost use Rattle.std.specs.FinMap.{entries};
 ghost use Rattle.med_base.specs.Content.{with_object};
 ghost use Rattle.med_outside.specs.Causes.{HasCause};
-ghost use Rattle.med_outside.specs.State.{Moves, Looks, with_layout};
-ghost use Rattle.med_outside.specs.Storage.{IsToldAs, Put, MayPut, listing};
-ghost use Rattle.med_outside.specs.declared.denied.Denied.TheVariants.{Failed, Memory};
+ghost use Rattle.med_outside.specs.State.{Moves, with_layout};
+ghost use Rattle.med_outside.specs.Storage.{Put, listing};
+ghost use Rattle.med_outside.specs.declared.denied.Denied.TheVariants.{Failed};
 ghost use Rattle.med_mem.specs.Objects.{pairs};
-ghost use Rattle.med_mem.specs.Told.{content_of, state_of, stood_since_of, with_added, with_clock, Ticks, Rests};
+ghost use Rattle.med_mem.specs.Told.{content_of, state_of, stood_since_of, with_added, with_clock, IsFull, Stays, Ticks, Rests};
 
 use crate::MemObject;
 use crate::object::{Change, copy_objects, list_under, put_object};
@@ -117,7 +117,13 @@ impl Storage for MemStore {
         _base: &str,
         _bucket: &str,
         prefix: &Layout,
-    ) -> Result<(), Denied> {
+    ) -> Result<(), Denied>
+        ensures ok { OnOk result (Moves [] (with_layout prefix.now (state_of self.old)) (state_of self.new) (stood_since_of self.old) (stood_since_of self.new)) }
+        ensures err { OnErr result (Stays self.old self.new) }
+        ensures time { Rests self.old self.new }
+        ensures full { IsErrOf result Denied.Failed → IsFull self.old }
+        ensures cause { HasCause self.old.faults self.new.faults result }
+    {
         let Some(calls) = self.calls.checked_add(1) else {
             self.faults = self.faults.saturating_add(1);
             return Err(Denied::Failed);
@@ -132,11 +138,21 @@ impl Storage for MemStore {
         }
     }
 
-    fn now(&mut self) -> u64 {
+    fn now(&mut self) -> u64
+        ensures value { result ≡ self.old.clock }
+        ensures same { self.new ≡ self.old }
+        ensures looks { Stays self.old self.new }
+    {
         self.clock
     }
 
-    fn put(&mut self, alloc: Global, path: &ObjPath, bytes: &[u8]) -> Result<u64, Denied> {
+    fn put(&mut self, alloc: Global, path: &ObjPath, bytes: &[u8]) -> Result<u64, Denied>
+        ensures ok { IfOk result (Put path.now bytes.now (state_of self.old) (state_of self.new) (stood_since_of self.old) (stood_since_of self.new)) }
+        ensures err { OnErr result (Stays self.old self.new) }
+        ensures time { MatchResult result (λ _. Ticks self.old self.new) (λ _. Rests self.old self.new) }
+        ensures full { IsErrOf result Denied.Failed → IsFull self.old }
+        ensures cause { HasCause self.old.faults self.new.faults result }
+    {
         let Some(calls) = self.calls.checked_add(1) else {
             self.faults = self.faults.saturating_add(1);
             return Err(Denied::Failed);
@@ -156,7 +172,13 @@ impl Storage for MemStore {
         Ok(second)
     }
 
-    fn list(&mut self, alloc: Global, under: &str) -> Result<Vec<Entry>, Denied> {
+    fn list(&mut self, alloc: Global, under: &str) -> Result<Vec<Entry>, Denied>
+        ensures entries { IfOk result (λ entries. entries.items ≡ listing under.now (content_of self.old)) }
+        ensures looks { Stays self.old self.new }
+        ensures time { Rests self.old self.new }
+        ensures full { IsErrOf result Denied.Failed → IsFull self.old }
+        ensures cause { HasCause self.old.faults self.new.faults result }
+    {
         let Some(calls) = self.calls.checked_add(1) else {
             self.faults = self.faults.saturating_add(1);
             return Err(Denied::Failed);
