@@ -1,9 +1,11 @@
 -- What a store in memory means: the changes that were made to it. Its content is what they leave,
 -- and a content stood from the change that made it to the change that ended it.
-use Rattle.std.specs.Prelude.{◌≡◌, ◌<◌, ◌+◌, ◌-◌, ◌^◌, ℕ, Bool, nat_le, min, List, [], ◌∷◌, ◌++◌, map, Some}
+use Rattle.std.specs.Prelude.{◌≡◌, ◌<◌, ◌+◌, ◌-◌, ◌^◌, ℕ, Bool, nat_le, min, List, [], ◌∷◌, ◌++◌, map, Some, Result, Ok, Err, IsErrOf}
 use Rattle.std.specs.List.{list_all}
 use Rattle.std.specs.FinMap.{empty}
 use Rattle.med_base.specs.Content.{Content}
+use Rattle.med_outside.specs.declared.denied.Denied.{Denied}
+use Rattle.med_outside.specs.declared.denied.Denied.TheVariants.{Failed, Memory}
 use Rattle.med_outside.specs.Effects.{Effect, Stores, applied}
 use Rattle.med_outside.specs.State.{State, Looks}
 
@@ -35,13 +37,13 @@ content_after notes = applied (map (λ (n : Note). n.effect) notes) empty
 abbrev pub content_of : Told → Content
 content_of m = content_after m.notes
 
--- the first of these changes, if there is one, was made later than after t of so many calls
+-- the first of these changes, if there is one, was made after more than t of so many calls
 abbrev pub ComesAfter : ℕ → ℕ → List Note → Type 0
 ComesAfter calls t [] = Unit {0}
 ComesAfter calls t (n ∷ notes) = (t < n.call) × (t < calls)
 
 -- The content stood at some moment since t calls had been made: it is what some first changes
--- left, and the next change, if there is one, came after that.
+-- left, and the next change, if there is one, came later.
 pub record StoodSince (notes : List Note) (calls t : ℕ) (c : Content) : Type 0 where
   pub first : List Note
   pub later : List Note
@@ -92,9 +94,21 @@ with_clock clock m = record {
   layout = m.layout;
 }
 
--- no call more could be counted
+-- no call more can be counted
 abbrev pub IsFull : Told → Type 0
 IsFull m = m.calls ≡ 2 ^ 64 - 1
+
+-- one fault more after a failure, up to the last value of a 64-bit counter
+abbrev pub faults_after : {T : Type 0} → Result T Denied → ℕ → ℕ
+faults_after (Ok x) faults = faults
+faults_after (Err Failed) faults = min (faults + 1) (2 ^ 64 - 1)
+faults_after (Err Memory) faults = faults
+
+-- the call was counted, and so was its failure, which comes only where no call can be counted
+pub record Counts {T : Type 0} (old new : Told) (result : Result T Denied) : Type 0 where
+  pub calls : new.calls ≡ min (old.calls + 1) (2 ^ 64 - 1)
+  pub faults : new.faults ≡ faults_after result old.faults
+  pub full : IsErrOf result Failed → IsFull old
 
 -- nothing changed but the number of calls and the count of faults, in the words of the trait
 abbrev pub Stays : Told → Told → Type 0

@@ -1,13 +1,12 @@
 // A storage in memory. It keeps a record of its changes, which tells the contents that stood.
-ghost use Rattle.std.specs.Prelude.{◌≡◌, [], IfOk, OnOk, OnErr, IsErrOf, MatchResult};
+ghost use Rattle.std.specs.Prelude.{◌≡◌, [], IfOk, OnOk, OnErr, MatchResult};
 ghost use Rattle.std.specs.FinMap.{entries};
 ghost use Rattle.med_base.specs.Content.{with_object};
 ghost use Rattle.med_outside.specs.Causes.{HasCause};
 ghost use Rattle.med_outside.specs.State.{Moves, with_layout};
 ghost use Rattle.med_outside.specs.Storage.{Put, listing};
-ghost use Rattle.med_outside.specs.declared.denied.Denied.TheVariants.{Failed};
 ghost use Rattle.med_mem.specs.Objects.{pairs};
-ghost use Rattle.med_mem.specs.Told.{content_of, state_of, stood_since_of, with_added, with_clock, IsFull, Stays, Ticks, Rests};
+ghost use Rattle.med_mem.specs.Told.{content_of, state_of, stood_since_of, with_added, with_clock, Counts, Stays, Ticks, Rests};
 
 use crate::MemObject;
 use crate::object::{Change, copy_objects, list_under, put_object};
@@ -57,10 +56,10 @@ impl MemStore {
         }
     }
 
-    /// Puts an object there, in place of one that was there. It is no call of the trait: it can't
-    /// fail, and no tick is added. It counts with the call before it: the content without the
-    /// object stood before that call's step ended, and since that step stood the one with it. In
-    /// a store without calls the object was there from the start.
+    /// Puts an object there, in place of one that was there. It is no call of the trait: no call is
+    /// counted and no tick is added. For the contents that stood it belongs to the last call that
+    /// was counted: since that call the store held the object. In a store without calls the object
+    /// was there from the start.
     pub fn add(
         &mut self,
         alloc: Global,
@@ -121,7 +120,7 @@ impl Storage for MemStore {
         ensures ok { OnOk result (Moves [] (with_layout prefix.now (state_of self.old)) (state_of self.new) (stood_since_of self.old) (stood_since_of self.new)) }
         ensures err { OnErr result (Stays self.old self.new) }
         ensures time { Rests self.old self.new }
-        ensures full { IsErrOf result Denied.Failed → IsFull self.old }
+        ensures counts { Counts self.old self.new result }
         ensures cause { HasCause self.old.faults self.new.faults result }
     {
         let Some(calls) = self.calls.checked_add(1) else {
@@ -150,7 +149,7 @@ impl Storage for MemStore {
         ensures ok { IfOk result (Put path.now bytes.now (state_of self.old) (state_of self.new) (stood_since_of self.old) (stood_since_of self.new)) }
         ensures err { OnErr result (Stays self.old self.new) }
         ensures time { MatchResult result (λ _. Ticks self.old self.new) (λ _. Rests self.old self.new) }
-        ensures full { IsErrOf result Denied.Failed → IsFull self.old }
+        ensures counts { Counts self.old self.new result }
         ensures cause { HasCause self.old.faults self.new.faults result }
     {
         let Some(calls) = self.calls.checked_add(1) else {
@@ -176,7 +175,7 @@ impl Storage for MemStore {
         ensures entries { IfOk result (λ entries. entries.items ≡ listing under.now (content_of self.old)) }
         ensures looks { Stays self.old self.new }
         ensures time { Rests self.old self.new }
-        ensures full { IsErrOf result Denied.Failed → IsFull self.old }
+        ensures counts { Counts self.old self.new result }
         ensures cause { HasCause self.old.faults self.new.faults result }
     {
         let Some(calls) = self.calls.checked_add(1) else {
