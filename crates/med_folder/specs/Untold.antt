@@ -1,0 +1,19 @@
+-- What contracts see of a storage over real files: its faults and its layout.
+use Rattle.std.specs.Prelude.{ℕ, List, None}
+use Rattle.med_outside.specs.State.{State}
+
+pub record Edge : Type 0 where
+  -- how often a call failed
+  pub faults : ℕ
+  -- what stands before each path of the bucket
+  pub layout : List ℕ
+
+-- as a storage: no content, no second and no steps are told
+abbrev pub untold : Edge → State
+untold edge = record {
+  content = None;
+  second = None;
+  faults = edge.faults;
+  step = 0;
+  terms = record { layout = edge.layout };
+}

@@ -1,0 +1,105 @@
+// Files that are read and written whole.
+use crate::count::is_absent;
+use crate::paths::parent_of;
+use crate::seconds::{modified_second, moment_of};
+use std::alloc::Global;
+use std::fs::{DirBuilder, File, FileTimes, Files, OpenFile, OpenOptions};
+use std::io::{ErrorKind, Read, Write};
+use std::os::unix::fs::{DirBuilderExt, OpenOptionsExt};
+use std::{fs, io};
+
+/// Refuses where no folder has the path, nor a link to one.
+pub(crate) fn check_folder<R: Files>(rt: &R, path: &str) -> io::Result<()> {
+    if fs::metadata(rt, path)?.is_dir() {
+        Ok(())
+    } else {
+        Err(io::Error::from(ErrorKind::NotADirectory))
+    }
+}
+
+/// Whether each folder on the way from `top` down to `folder` is a folder itself, and no link or
+/// file, as far as there are any.
+pub(crate) fn is_plain_way<R: Files>(
+    rt: &R,
+    alloc: Global,
+    top: &str,
+    folder: &str,
+) -> io::Result<bool> {
+    let mut at = String::from_str(alloc, top)?;
+    for part in folder.split('/') {
+        at.push('/')?;
+        at.push_str(part)?;
+        match fs::symlink_metadata(rt, at.as_str()) {
+            Ok(metadata) if metadata.is_dir() => {}
+            Ok(_) => return Ok(false),
+            Err(error) if is_absent(&error) => return Ok(true),
+            Err(error) => return Err(error),
+        }
+    }
+    Ok(true)
+}
+
+/// The bytes of the plain file at a path. Where anything else lies there, or nothing, it refuses.
+pub(crate) fn read_plain<R: Files>(rt: &R, alloc: Global, path: &str) -> io::Result<Vec<u8>> {
+    if !fs::symlink_metadata(rt, path)?.is_file() {
+        return Err(io::Error::from(ErrorKind::InvalidInput));
+    }
+    let mut bytes = Vec::new(alloc);
+    File::open(rt, path)?.read_to_end(&mut bytes)?;
+    Ok(bytes)
+}
+
+/// Makes a folder and those above it that aren't there. Only their owner may enter them.
+pub(crate) fn make_folders<R: Files>(rt: &R, path: &str) -> io::Result<()> {
+    DirBuilder::new()
+        .recursive(true)
+        .mode(0o700)
+        .create(rt, path)
+}
+
+// A new file that only its owner reads, in place of one that was left. It follows no link.
+fn create_anew<R: Files>(rt: &R, path: &str) -> io::Result<R::File> {
+    match fs::remove_file(rt, path) {
+        Err(error) if !is_absent(&error) => return Err(error),
+        _ => {}
+    }
+    let mut options = OpenOptions::new();
+    options.write(true).create_new(true).mode(0o600);
+    options.open(rt, path)
+}
+
+/// Writes a new file whose modified time is that second, and has the system keep it.
+pub(crate) fn write_anew<R: Files>(
+    rt: &R,
+    path: &str,
+    bytes: &[u8],
+    second: u64,
+) -> io::Result<()> {
+    let mut file = create_anew(rt, path)?;
+    file.write_all(bytes)?;
+    file.set_times(FileTimes::new().set_modified(moment_of(second)?))?;
+    if modified_second(&file.metadata()?)? != second {
+        return Err(io::Error::from(ErrorKind::InvalidData));
+    }
+    file.sync_all()
+}
+
+/// Has the system keep the names in the folders on the way from `top` down to what the path names.
+pub(crate) fn sync_way<R: Files>(rt: &R, top: &str, path: &str) -> io::Result<()> {
+    for end in top.len()..path.len() {
+        match path.split_at_checked(end) {
+            Some((folder, rest)) if rest.starts_with('/') => File::open(rt, folder)?.sync_all()?,
+            _ => {}
+        }
+    }
+    Ok(())
+}
+
+/// Moves a file to its place below `top`, in place of what was there, and has the system keep it.
+/// The folders are made. It takes no memory, so that a file that was moved isn't refused for want
+/// of it.
+pub(crate) fn move_in<R: Files>(rt: &R, from: &str, top: &str, to: &str) -> io::Result<()> {
+    make_folders(rt, parent_of(to))?;
+    fs::rename(rt, from, to)?;
+    sync_way(rt, top, to)
+}

@@ -1,0 +1,25 @@
+//! The outside as real files and folders: a bucket, the nodes with their snapshots, and a stream.
+//!
+//! The objects meet the traits of med_outside and tell nothing of what they hold: no clause can say
+//! what a file holds. Each call asks the file system and hands the outcome to `counted`, so that
+//! every refusal has a count that rose.
+//! Read `specs/Untold.antt`, then `src/count.rt` and `src/store.rt`.
+#![tactic(auto)]
+
+mod count;
+mod files;
+mod nodes;
+mod paths;
+mod seconds;
+mod sink;
+mod snap;
+mod store;
+mod walk;
+
+pub use nodes::FolderNodes;
+pub use sink::RealSink;
+pub use snap::FolderSnap;
+pub use store::FolderStore;
+
+#[cfg(test)]
+mod tests;

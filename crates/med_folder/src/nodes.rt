@@ -1,0 +1,64 @@
+// Nodes as folders.
+ghost use Rattle.std.specs.Prelude.{◌≡◌, ℕ, None, IfOk};
+
+use crate::FolderSnap;
+use crate::count::counted;
+use crate::snap::open_snap;
+use med_base::Fqdn;
+use med_outside::{Denied, Nodes};
+use std::alloc::Global;
+use std::fs::Files;
+use std::marker::Model;
+
+/// The nodes whose folders lie below a root: the data of the node `f` in `<root>/<f>/data`, its
+/// schema in `<root>/<f>/schema.cql`.
+#[derive(Drop)]
+pub struct FolderNodes<R> {
+    rt: R,
+    before: &'static str,
+    faults: u64,
+}
+
+impl<R> Model for FolderNodes<R> {
+    ghost use Rattle.std.specs.Prelude.{ℕ};
+
+    ghost Value = { ℕ };
+
+    ghost view = { λ s. s.faults };
+}
+
+impl<R> FolderNodes<R> {
+    /// Nodes without a fault. `before` stands before each root as it is, as for a store.
+    pub fn new(rt: R, before: &'static str) -> FolderNodes<R>
+        ensures { result ≡ 0 }
+    {
+        FolderNodes {
+            rt,
+            before,
+            faults: 0,
+        }
+    }
+}
+
+impl<R: Files + AllocGlobal + Clone + Drop> Nodes for FolderNodes<R> {
+    type Snap = FolderSnap<R>;
+
+    ghost snaps = { λ _ _ _ _. None };
+
+    ghost faults = { λ s. s };
+
+    fn open(
+        &mut self,
+        alloc: Global,
+        root: &str,
+        node: &Fqdn,
+        tag: &str,
+    ) -> Result<FolderSnap<R>, Denied> {
+        let outcome = open_snap(&self.rt, alloc, self.before, root, node.as_str(), tag);
+        counted(&mut self.faults, outcome)
+    }
+
+    fn close(&mut self, snap: FolderSnap<R>) {
+        self.faults = self.faults.saturating_add(snap.fault_count());
+    }
+}

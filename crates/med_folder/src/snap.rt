@@ -1,0 +1,260 @@
+// The snapshot of a node as folders.
+ghost use Rattle.std.specs.Prelude.{◌≡◌, None, IfOk};
+ghost use Rattle.med_outside.specs.Snapshot.{raw_name};
+
+use crate::count::{counted, is_absent};
+use crate::files::{is_plain_way, read_plain};
+use crate::paths::{is_part, joined, parent_of};
+use med_base::FileKey;
+use med_outside::{Denied, RawKey, Snap};
+use std::alloc::{AllocError, Global};
+use std::fs::Files;
+use std::io::ErrorKind;
+use std::marker::Model;
+use std::{fs, io};
+
+/// What lies of one node under `data/<keyspace>/<table>/snapshots/<tag>/`. A folder there whose
+/// name begins with a dot is a secondary index: the folder `.i` of the table `t-1` is listed as the
+/// table `t-1.i`. What else isn't a plain file is passed over.
+#[derive(Drop)]
+pub struct FolderSnap<R> {
+    rt: R,
+    node: String,
+    tag: String,
+    faults: u64,
+}
+
+impl<R> Model for FolderSnap<R> {
+    ghost use Rattle.std.specs.Prelude.{ℕ};
+
+    ghost Value = { ℕ };
+
+    ghost view = { λ s. s.faults };
+}
+
+impl<R> FolderSnap<R> {
+    pub(crate) fn fault_count(&self) -> u64
+        ensures { result ≡ self.now }
+    {
+        self.faults
+    }
+}
+
+/// The snapshot with a tag, whose folders need not be there.
+pub(crate) fn open_snap<R: Clone + Drop>(
+    rt: &R,
+    alloc: Global,
+    before: &str,
+    root: &str,
+    node: &str,
+    tag: &str,
+) -> io::Result<FolderSnap<R>>
+    ensures { IfOk result (λ snap. snap ≡ 0) }
+{
+    if !is_part(tag) {
+        return Err(io::Error::from(ErrorKind::InvalidFilename));
+    }
+    let mut above = String::from_str(alloc, before)?;
+    above.push_str(root)?;
+    let node = joined(alloc, above.as_str(), node)?;
+    let tag = String::from_str(alloc, tag)?;
+    let rt = rt.clone()?;
+    Ok(FolderSnap {
+        rt,
+        node,
+        tag,
+        faults: 0,
+    })
+}
+
+/// What a folder holds, in byte order: the names of its plain files, and those of its folders.
+#[derive(Drop)]
+struct Names {
+    files: Vec<String>,
+    folders: Vec<String>,
+}
+
+// A folder that isn't there holds nothing.
+fn names_in<R: Files + AllocGlobal + Clone + Drop>(
+    rt: &R,
+    alloc: Global,
+    path: &str,
+) -> io::Result<Names> {
+    let mut files = Vec::new(alloc);
+    let mut folders = Vec::new(alloc);
+    let listing = match fs::read_dir(rt, path) {
+        Ok(listing) => listing,
+        Err(error) if is_absent(&error) => return Ok(Names { files, folders }),
+        Err(error) => return Err(error),
+    };
+    for entry in listing {
+        let entry = entry?;
+        let metadata = entry.metadata()?;
+        let name = String::from_str(alloc, entry.file_name())?;
+        if metadata.is_dir() {
+            folders.push(name)?;
+        } else if metadata.is_file() {
+            files.push(name)?;
+        }
+    }
+    files.sort_unstable();
+    folders.sort_unstable();
+    Ok(Names { files, folders })
+}
+
+fn raw_key(alloc: Global, keyspace: &str, table: &str, file: &str) -> Result<RawKey, AllocError>
+    ensures { IfOk result (λ key. raw_name key ≡ record { keyspace = keyspace.now; table = table.now; file = file.now }) }
+{
+    Ok(RawKey {
+        keyspace: String::from_str(alloc, keyspace)?,
+        table: String::from_str(alloc, table)?,
+        file: String::from_str(alloc, file)?,
+    })
+}
+
+fn push_keys(
+    alloc: Global,
+    keyspace: &str,
+    table: &str,
+    files: &Vec<String>,
+    keys: &mut Vec<RawKey>,
+) -> Result<(), AllocError> {
+    for file in files {
+        keys.push(raw_key(alloc, keyspace, table, file.as_str())?)?;
+    }
+    Ok(())
+}
+
+// The files of a table, and those of its indexes.
+fn keys_of_table<R: Files + AllocGlobal + Clone + Drop>(
+    rt: &R,
+    alloc: Global,
+    folder: &str,
+    keyspace: &str,
+    table: &str,
+    keys: &mut Vec<RawKey>,
+) -> io::Result<()> {
+    let names = names_in(rt, alloc, folder)?;
+    push_keys(alloc, keyspace, table, &names.files, keys)?;
+    for index in &names.folders {
+        if index.as_str().starts_with('.') {
+            let path = joined(alloc, folder, index.as_str())?;
+            let below = names_in(rt, alloc, path.as_str())?;
+            let mut whole = String::from_str(alloc, table)?;
+            whole.push_str(index.as_str())?;
+            push_keys(alloc, keyspace, whole.as_str(), &below.files, keys)?;
+        }
+    }
+    Ok(())
+}
+
+// The folder of a table's files, below the folder of the node's data.
+fn table_folder(
+    alloc: Global,
+    keyspace: &str,
+    table: &str,
+    tag: &str,
+) -> Result<String, AllocError> {
+    let table = joined(alloc, keyspace, table)?;
+    let snapshots = joined(alloc, table.as_str(), "snapshots")?;
+    joined(alloc, snapshots.as_str(), tag)
+}
+
+fn keys_of_keyspace<R: Files + AllocGlobal + Clone + Drop>(
+    rt: &R,
+    alloc: Global,
+    data: &str,
+    keyspace: &str,
+    tag: &str,
+    keys: &mut Vec<RawKey>,
+) -> io::Result<()> {
+    let path = joined(alloc, data, keyspace)?;
+    let tables = names_in(rt, alloc, path.as_str())?;
+    for table in &tables.folders {
+        let table = table.as_str();
+        let folder = table_folder(alloc, keyspace, table, tag)?;
+        if !table.contains('.') && is_plain_way(rt, alloc, data, folder.as_str())? {
+            let path = joined(alloc, data, folder.as_str())?;
+            keys_of_table(rt, alloc, path.as_str(), keyspace, table, keys)?;
+        }
+    }
+    Ok(())
+}
+
+fn keys_of_node<R: Files + AllocGlobal + Clone + Drop>(
+    rt: &R,
+    alloc: Global,
+    node: &str,
+    tag: &str,
+) -> io::Result<Vec<RawKey>> {
+    let data = joined(alloc, node, "data")?;
+    let data = data.as_str();
+    let mut keys = Vec::new(alloc);
+    let keyspaces = names_in(rt, alloc, data)?;
+    for keyspace in &keyspaces.folders {
+        keys_of_keyspace(rt, alloc, data, keyspace.as_str(), tag, &mut keys)?;
+    }
+    Ok(keys)
+}
+
+// The folder of a file, below the folder of the node's data. A table is divided before its first
+// dot. No part of the folder leaves that one.
+fn folder_of(alloc: Global, tag: &str, key: &FileKey) -> io::Result<String> {
+    let keyspace = key.keyspace.as_str();
+    let table = key.table.as_str();
+    let Some((table, rest)) = table.split_once('.') else {
+        return Ok(table_folder(alloc, keyspace, table, tag)?);
+    };
+    let mut index = String::from_str(alloc, ".")?;
+    index.push_str(rest)?;
+    if !is_part(table) || !is_part(index.as_str()) {
+        return Err(io::Error::from(ErrorKind::InvalidFilename));
+    }
+    let folder = table_folder(alloc, keyspace, table, tag)?;
+    Ok(joined(alloc, folder.as_str(), index.as_str())?)
+}
+
+fn read_file<R: Files>(
+    rt: &R,
+    alloc: Global,
+    node: &str,
+    tag: &str,
+    key: &FileKey,
+) -> io::Result<Vec<u8>> {
+    let data = joined(alloc, node, "data")?;
+    let folder = folder_of(alloc, tag, key)?;
+    if !is_plain_way(rt, alloc, data.as_str(), folder.as_str())? {
+        return Err(io::Error::from(ErrorKind::NotADirectory));
+    }
+    let folder = joined(alloc, data.as_str(), folder.as_str())?;
+    let path = joined(alloc, folder.as_str(), key.file.as_str())?;
+    read_plain(rt, alloc, path.as_str())
+}
+
+fn read_schema<R: Files>(rt: &R, alloc: Global, node: &str) -> io::Result<Vec<u8>> {
+    let path = joined(alloc, node, "schema.cql")?;
+    read_plain(rt, alloc, path.as_str())
+}
+
+impl<R: Files + AllocGlobal + Clone + Drop> Snap for FolderSnap<R> {
+    ghost held = { λ _. None };
+
+    ghost faults = { λ s. s };
+
+    fn keys(&mut self, alloc: Global) -> Result<Vec<RawKey>, Denied> {
+        let outcome = keys_of_node(&self.rt, alloc, self.node.as_str(), self.tag.as_str());
+        counted(&mut self.faults, outcome)
+    }
+
+    fn read(&mut self, alloc: Global, key: &FileKey) -> Result<Vec<u8>, Denied> {
+        let outcome = read_file(&self.rt, alloc, self.node.as_str(), self.tag.as_str(), key);
+        counted(&mut self.faults, outcome)
+    }
+
+    fn schema(&mut self, alloc: Global) -> Result<Vec<u8>, Denied> {
+        let outcome = read_schema(&self.rt, alloc, self.node.as_str());
+        counted(&mut self.faults, outcome)
+    }
+
+    ghost listed_once = { λ _. tt };
+}
