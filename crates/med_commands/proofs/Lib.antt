@@ -1,0 +1,12 @@
+pub mod Apart
+pub mod Composed
+pub mod Copied
+pub mod Ended
+pub mod Finished
+pub mod FiveWords
+pub mod KeyLists
+pub mod Lists
+pub mod Placed
+pub mod Printing
+pub mod Stands
+pub mod Statuses

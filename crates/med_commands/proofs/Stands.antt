@@ -1,0 +1,55 @@
+-- What stands after puts: the last object of each path, and what was there of every other path.
+use Rattle.std.proofs.Common.{◌≡◌, ℕ, Bool, true, false, cond, List, [], ◌∷◌, ◌++◌, Some, refl, ap, ◌∙◌}
+use Rattle.std.specs.Ordering.{nat_cmp, is_eq, eq_by_cmp}
+use Rattle.std.specs.declared.cmp.Ordering.{Ordering}
+use Rattle.std.specs.declared.cmp.Ordering.TheVariants.{Less, Equal, Greater}
+use Rattle.std.specs.Cmp.Lexicographic.{slice_cmp, nat_list_cmp_total}
+use Rattle.std.specs.Cmp.{tied_itself}
+use Rattle.std.specs.FinMap.{get, get-insert}
+use Rattle.std.specs.List.{AllByRecursion}
+use Rattle.std.proofs.lemmas.Map.Lookups.{exact_bytes}
+use Rattle.med_base.specs.Content.{Content}
+use Rattle.med_outside.specs.Effects.{Effect, Stores, made, applied}
+use Rattle.med_outside.proofs.Passing.{applied-append}
+
+tie : (r : Ordering) (P : Type 0) → (r ≡ Equal → P) → is_eq r ≡ true → P
+tie Less P f e = absurd (cc)
+tie Equal P f e = f refl
+tie Greater P f e = absurd (cc)
+
+apart : (b : Bool) → (b ≡ true → ⊥) → b ≡ false
+apart true h = absurd (h refl)
+apart false h = refl
+
+other : (p q : List ℕ) → (p ≡ q → ⊥) → eq_by_cmp (slice_cmp nat_cmp) p q ≡ false
+other p q ne = apart _ (λ e. ne (tie (slice_cmp nat_cmp p q) (p ≡ q) (exact_bytes p q) e))
+
+same : (p : List ℕ) → eq_by_cmp (slice_cmp nat_cmp) p p ≡ true
+same p = ap is_eq (tied_itself nat_list_cmp_total p)
+
+abbrev pub path_of : Effect → List ℕ
+path_of (Stores path bytes second) = path
+
+-- no change is of the path
+abbrev pub NoneHas : List ℕ → List Effect → Type 0
+NoneHas p xs = AllByRecursion (λ (x : Effect). p ≡ path_of x → ⊥) xs
+
+pub stays : (p : List ℕ) (xs : List Effect) (c : Content) → NoneHas p xs → get (applied xs c) p ≡ get c p
+stays p [] c none = refl
+stays p (Stores path bytes second ∷ xs) c none =
+    stays p xs (made (Stores path bytes second) c) none.1
+    ∙ get-insert nat_list_cmp_total c path (record { bytes = bytes; second = second }) p
+    ∙ ap (λ b. cond b (Some (record { bytes = bytes; second = second })) (get c p)) (other p path none.0)
+
+pub put_stays : (p bytes : List ℕ) (second : ℕ) (xs : List Effect) (c : Content) → NoneHas p xs
+    → get (applied (Stores p bytes second ∷ xs) c) p ≡ Some (record { bytes = bytes; second = second })
+put_stays p bytes second xs c none =
+    stays p xs (made (Stores p bytes second) c) none
+    ∙ get-insert nat_list_cmp_total c p (record { bytes = bytes; second = second }) p
+    ∙ ap (λ b. cond b (Some (record { bytes = bytes; second = second })) (get c p)) (same p)
+
+-- the object of the last put
+pub last_put : (p bytes : List ℕ) (second : ℕ) (xs : List Effect) (c : Content)
+    → get (applied (xs ++ Stores p bytes second ∷ []) c) p ≡ Some (record { bytes = bytes; second = second })
+last_put p bytes second xs c =
+    ap (λ (d : Content). get d p) (applied-append xs (Stores p bytes second ∷ []) c) ∙ put_stays p bytes second [] (applied xs c) tt

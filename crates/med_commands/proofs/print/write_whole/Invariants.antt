@@ -1,0 +1,13 @@
+use Rattle.std.proofs.Common.{◌≤◌, ◌-◌, length, take}
+use Rattle.med_commands.specs.Printed.{Wrote}
+use Rattle.med_commands.proofs.print.write_whole.Given as goal
+
+abbrev pub invariant-loop-done : goal.invariant-loop-done
+invariant-loop-done g l = record {
+  bound : l.done ≤ length l.bytes;
+  told : Wrote (take l.done l.bytes) (g.O.Sink.taken l.fn.out) (g.O.Sink.taken l.out);
+  later : g.O.Sink.faults l.fn.out ≤ g.O.Sink.faults l.out;
+}
+
+abbrev pub decreases-loop-done : goal.decreases-loop-done
+decreases-loop-done g l = length l.initial.bytes - l.done

@@ -1,0 +1,14 @@
+pub mod Answers
+pub mod Backup
+pub mod Calls
+pub mod Copies
+pub mod Fault
+pub mod Headline
+pub mod Placing
+pub mod Printed
+pub mod Report
+pub mod Status
+pub mod Taken
+pub mod Texts
+pub mod Walked
+pub mod Words

@@ -1,0 +1,39 @@
+// Printing to a sink, piece by piece, without taking memory.
+ghost use Rattle.std.specs.Prelude.{◌≡◌, ◌≤◌, OnErr, map};
+ghost use Rattle.std.specs.List.{concat};
+ghost use Rattle.med_outside.specs.Causes.{Rose};
+ghost use Rattle.med_commands.specs.Printed.{Prints};
+
+use med_outside::{Sink, SinkFailed};
+
+/// Writes a piece until the sink has taken it whole.
+pub(crate) fn write_whole<O: Sink>(out: &mut O, bytes: &[u8]) -> Result<(), SinkFailed>
+    ensures text { Prints bytes.now (O.taken out.old) (O.taken out.new) result }
+    ensures later { O.faults out.old ≤ O.faults out.new }
+    ensures failed { OnErr result (Rose (O.faults out.old) (O.faults out.new)) }
+{
+    let mut done = 0;
+    while done < bytes.len() {
+        let n = out.write(&bytes[done..])?;
+        if n == 0 {
+            return Err(SinkFailed);
+        }
+        done += n;
+    }
+    Ok(())
+}
+
+/// Writes pieces one after another.
+pub(crate) fn write_pieces<O: Sink>(out: &mut O, pieces: &[&[u8]]) -> Result<(), SinkFailed>
+    ensures text { Prints (concat (map (λ x. x.now) pieces.now)) (O.taken out.old) (O.taken out.new) result }
+    ensures later { O.faults out.old ≤ O.faults out.new }
+    ensures failed { OnErr result (Rose (O.faults out.old) (O.faults out.new)) }
+{
+    for piece in pieces {
+        match write_whole(out, piece) {
+            Ok(()) => {}
+            Err(SinkFailed) => return Err(SinkFailed),
+        }
+    }
+    Ok(())
+}
