@@ -1,1 +1,238 @@
-// tests
+// Names and their first faults by the rules, and the digests of RFC 1321, A.5.
+use crate::{
+    BackupName, Component, FileKey, Fingerprint, Fqdn, Layout, MetaKind, NameError, NoMemory,
+    ObjPath, cut_at, md5_text,
+};
+use std::alloc::Global;
+use std::test::Fail;
+
+// What a reader says of a text: nothing, or the place of the first fault.
+type Reading = Result<(), NameError>;
+
+fn read_component(alloc: Global, text: &str) -> Reading {
+    Component::read(alloc, text)?;
+    Ok(())
+}
+
+fn read_node(alloc: Global, text: &str) -> Reading {
+    Fqdn::read(alloc, text)?;
+    Ok(())
+}
+
+fn read_backup(alloc: Global, text: &str) -> Reading {
+    BackupName::read(alloc, text)?;
+    Ok(())
+}
+
+fn read_prefix(alloc: Global, text: &str) -> Reading {
+    Layout::new(alloc, text)?;
+    Ok(())
+}
+
+const fn bad(at: usize) -> Reading {
+    Err(NameError::BadName { at })
+}
+
+#[test]
+fn each_reader_tells_the_first_fault(rt: HostRuntime) {
+    let alloc = rt.alloc();
+    for (text, component, node, backup) in [
+        ("", bad(0), bad(0), bad(0)),
+        ("a", Ok(()), Ok(()), Ok(())),
+        (".", bad(0), bad(0), bad(0)),
+        ("..", bad(0), bad(0), bad(0)),
+        ("...", Ok(()), bad(0), bad(0)),
+        (".hidden", Ok(()), bad(0), bad(0)),
+        (".a/b", bad(2), bad(0), bad(0)),
+        ("index", Ok(()), bad(0), Ok(())),
+        ("index2", Ok(()), Ok(()), Ok(())),
+        ("data", Ok(()), Ok(()), bad(0)),
+        ("meta", Ok(()), Ok(()), bad(0)),
+        ("data2", Ok(()), Ok(()), Ok(())),
+        ("/", bad(0), bad(0), bad(0)),
+        ("a/b", bad(1), bad(1), bad(1)),
+        ("ab\0", bad(2), bad(2), bad(2)),
+        ("abc\nd/", bad(3), bad(3), bad(3)),
+        ("a b\t\u{e9}", Ok(()), Ok(()), Ok(())),
+    ] {
+        assert_eq!(rt; read_component(alloc, text), component);
+        assert_eq!(rt; read_node(alloc, text), node);
+        assert_eq!(rt; read_backup(alloc, text), backup);
+    }
+}
+
+// What the three readers say of a text of so many bytes `a`.
+fn read_long(alloc: Global, length: usize, end: &str) -> Result<[Reading; 3], NoMemory> {
+    let mut text = String::new(alloc);
+    for _ in 0..length {
+        text.push('a')?;
+    }
+    text.push_str(end)?;
+    let text = text.as_str();
+    Ok([
+        read_component(alloc, text),
+        read_node(alloc, text),
+        read_backup(alloc, text),
+    ])
+}
+
+#[test]
+fn names_end_at_200_bytes_and_components_at_255(rt: HostRuntime) {
+    let alloc = rt.alloc();
+    let fits = Ok(());
+    assert_eq!(rt; read_long(alloc, 200, ""), Ok([fits, fits, fits]));
+    assert_eq!(rt; read_long(alloc, 201, ""), Ok([fits, bad(200), bad(200)]));
+    assert_eq!(rt; read_long(alloc, 255, ""), Ok([fits, bad(200), bad(200)]));
+    assert_eq!(rt;
+        read_long(alloc, 256, ""),
+        Ok([bad(255), bad(200), bad(200)])
+    );
+    assert_eq!(rt;
+        read_long(alloc, 300, "/"),
+        Ok([bad(300), bad(300), bad(300)])
+    );
+    assert_eq!(rt;
+        read_long(alloc, 199, "\u{e9}"),
+        Ok([fits, bad(200), bad(200)])
+    );
+}
+
+#[test]
+fn a_prefix_is_joined_components_without_a_leading_dot(rt: HostRuntime) {
+    let alloc = rt.alloc();
+    for (text, reading) in [
+        ("", Ok(())),
+        ("a", Ok(())),
+        ("index", Ok(())),
+        ("a/b.c/d", Ok(())),
+        ("/", bad(0)),
+        ("/a", bad(0)),
+        ("a/", bad(2)),
+        ("a//b", bad(2)),
+        ("a/.b", bad(2)),
+        ("a/../b", bad(2)),
+        ("a/b\nc", bad(2)),
+    ] {
+        assert_eq!(rt; read_prefix(alloc, text), reading);
+    }
+}
+
+// What the reader of prefixes says of so many parts `a`.
+fn read_parts(alloc: Global, count: usize) -> Result<Reading, NoMemory> {
+    let mut text = String::new(alloc);
+    for _ in 1..count {
+        text.push_str("a/")?;
+    }
+    text.push('a')?;
+    Ok(read_prefix(alloc, text.as_str()))
+}
+
+#[test]
+fn a_prefix_ends_at_512_bytes(rt: HostRuntime) {
+    assert_eq!(rt; read_parts(rt.alloc(), 256), Ok(Ok(())));
+    assert_eq!(rt; read_parts(rt.alloc(), 257), Ok(bad(512)));
+}
+
+fn copies(alloc: Global) -> Result<[bool; 6], Fail> {
+    let part = Component::read(alloc, "ks")?;
+    let node = Fqdn::read(alloc, "n1")?;
+    let backup = BackupName::read(alloc, "b1")?;
+    let path = ObjPath::of(alloc, "n1/b1")?;
+    let layout = Layout::new(alloc, "pre/fix")?;
+    let key = FileKey {
+        keyspace: Component::read(alloc, "ks")?,
+        table: Component::read(alloc, "t-1")?,
+        file: Component::read(alloc, "nb-1-big-Data.db")?,
+    };
+    let own = layout.own(alloc, &node, &backup, &key)?;
+    let own_of_copy = layout.copy(alloc)?.own(alloc, &node, &backup, &key)?;
+    Ok([
+        part.copy(alloc)?.as_str() == "ks",
+        node.copy(alloc)?.as_str() == "n1",
+        backup.copy(alloc)?.as_str() == "b1",
+        path.copy(alloc)?.as_str() == "n1/b1",
+        own_of_copy.as_str() == own.as_str(),
+        key.copy(alloc)? == key,
+    ])
+}
+
+#[test]
+fn a_copy_is_equal(rt: HostRuntime) -> Result<(), Fail> {
+    assert_eq!(rt; copies(rt.alloc())?, [true; 6]);
+    Ok(())
+}
+
+fn paths(alloc: Global, prefix: &str) -> Result<String, Fail> {
+    let layout = Layout::new(alloc, prefix)?;
+    let node = Fqdn::read(alloc, "n1")?;
+    let backup = BackupName::read(alloc, "b1")?;
+    let key = FileKey {
+        keyspace: Component::read(alloc, "ks")?,
+        table: Component::read(alloc, "t-1")?,
+        file: Component::read(alloc, "nb-1-big-Data.db")?,
+    };
+    let mut text = layout.backup_folder(alloc, &node, &backup)?;
+    text.push('\n')?;
+    text.push_str(layout.own(alloc, &node, &backup, &key)?.as_str())?;
+    for kind in [
+        MetaKind::Schema,
+        MetaKind::Differential,
+        MetaKind::Tokenmap,
+        MetaKind::Manifest,
+    ] {
+        text.push('\n')?;
+        text.push_str(layout.meta(alloc, &node, &backup, kind)?.as_str())?;
+    }
+    Ok(text)
+}
+
+#[test]
+fn each_object_has_its_path(rt: HostRuntime) -> Result<(), Fail> {
+    let plain = "n1/b1/\nn1/b1/data/ks/t-1/nb-1-big-Data.db\nn1/b1/meta/schema.cql\n\
+        n1/b1/meta/differential\nn1/b1/meta/tokenmap.json\nn1/b1/meta/manifest.json";
+    let below = "p/q/n1/b1/\np/q/n1/b1/data/ks/t-1/nb-1-big-Data.db\np/q/n1/b1/meta/schema.cql\n\
+        p/q/n1/b1/meta/differential\np/q/n1/b1/meta/tokenmap.json\np/q/n1/b1/meta/manifest.json";
+    assert_eq!(rt; paths(rt.alloc(), "")?.as_str(), plain);
+    assert_eq!(rt; paths(rt.alloc(), "p/q")?.as_str(), below);
+    Ok(())
+}
+
+// Whether the fingerprint of a text is its length and this digest.
+fn has_digest(alloc: Global, text: &str, digest: &str) -> Result<bool, NoMemory> {
+    let Fingerprint { size, md5 } = Fingerprint::of(text.as_bytes());
+    Ok(size == text.len() as u64 && md5_text(alloc, &md5)?.as_str() == digest)
+}
+
+#[test]
+fn digests_are_those_of_the_rfc(rt: HostRuntime) {
+    for (text, digest) in [
+        ("", "d41d8cd98f00b204e9800998ecf8427e"),
+        ("a", "0cc175b9c0f1b6a831c399e269772661"),
+        ("abc", "900150983cd24fb0d6963f7d28e17f72"),
+        ("message digest", "f96b697d7cb7938d525a2f31aaf161d0"),
+        (
+            "abcdefghijklmnopqrstuvwxyz",
+            "c3fcd3d76192e4007dfb496cca67e13b",
+        ),
+        (
+            "ABCDEFGHIJKLMNOPQRSTUVWXYZabcdefghijklmnopqrstuvwxyz0123456789",
+            "d174ab98d277d9f5a5611c2c9f419d9f",
+        ),
+        (
+            "12345678901234567890123456789012345678901234567890123456789012345678901234567890",
+            "57edf4a22be3c955ac49da2e2107b67a",
+        ),
+    ] {
+        assert_eq!(rt; has_digest(rt.alloc(), text, digest), Ok(true));
+    }
+}
+
+#[test]
+fn a_text_is_cut_at_the_first_such_byte(rt: HostRuntime) {
+    let (first, rest) = cut_at(b"ab/c/d", b'/');
+    assert_eq!(rt; first, b"ab".as_slice());
+    assert_eq!(rt; rest, Some(b"c/d".as_slice()));
+    let (whole, none) = cut_at(b"ab", b'/');
+    assert_eq!(rt; whole, b"ab".as_slice());
+    assert!(rt; none.is_none());
+}
