@@ -11,25 +11,28 @@ use Rattle.med_base.specs.KeyOrder.{key_total}
 use Rattle.med_outside.specs.declared.nodes.RawKey.{RawKey}
 use Rattle.med_outside.specs.Snapshot.{Snapshot, raw_name, HasKey, IsListed}
 
-counted : (E : FileKey → Bool) (k : FileKey) (ks : List FileKey) → E k ≡ true → count_by E (k ∷ ks) ≡ 0 → ⊥
-counted E k ks is none =
-    let kept : cond (E k) (k ∷ filter E ks) (filter E ks) ≡ k ∷ filter E ks = ap (λ b. cond b (k ∷ filter E ks) (filter E ks)) is in
-    let long : length (filter E (k ∷ ks)) ≡ suc (length (filter E ks)) = ap length kept in
-    let short : length (filter E (k ∷ ks)) ≡ 0 = length-filter E (k ∷ ks) ∙ none in
-    absurd (omega (arith, long, short))
+module _ (E : FileKey → Bool) (k : FileKey) (ks : List FileKey) where
+  counted : E k ≡ true → count_by E (k ∷ ks) ≡ 0 → ⊥
+  counted is none =
+      let kept = ap (λ b. cond b (k ∷ filter E ks) (filter E ks)) is in
+      let long : length (filter E (k ∷ ks)) ≡ suc (length (filter E ks)) = ap length kept in
+      let short : length (filter E (k ∷ ks)) ≡ 0 = length-filter E (k ∷ ks) ∙ none in
+      absurd (omega (arith, long, short))
 
-in_order : (s : Snapshot) → IsListed s → (k : FileKey) (ks : List FileKey) → k ∷ ks ≡ s.order → HasKey k s
-in_order s listed k ks is = go (contains_key s.files k) refl
-  where
-    go : (b : Bool) → contains_key s.files k ≡ b → contains_key s.files k ≡ true
-    go true has = has
-    go false has =
-        absurd (counted (key_eq k) k ks ((eq_by_cmp_equiv key_total).refl k) (ap (count_by (key_eq k)) is ∙ listed k ∙ ap (λ b. cond b 1 0) has))
+module _ (s : Snapshot) (listed : IsListed s) where
+  in_order : (k : FileKey) (ks : List FileKey) → k ∷ ks ≡ s.order → HasKey k s
+  in_order k ks is = go (contains_key s.files k) refl
+    where
+      go : (b : Bool) → contains_key s.files k ≡ b → contains_key s.files k ≡ true
+      go true has = has
+      go false has =
+          let none = ap (count_by (key_eq k)) is ∙ listed k ∙ ap (λ b. cond b 1 0) has in
+          absurd (counted (key_eq k) k ks ((eq_by_cmp_equiv key_total).refl k) none)
 
 -- the first key of those that it answers
 pub first_has_file : (told : Option Snapshot) (keys : List RawKey) (raw : RawKey) (key : FileKey)
-    → IfSome told IsListed → IfSome told (λ s. map raw_name keys ≡ s.order) → 0 < length keys → raw ≡ get_or keys 0 raw → key ≡ raw_name raw
-    → IfSome told (HasKey key)
+    → IfSome told IsListed → IfSome told (λ s. map raw_name keys ≡ s.order)
+    → 0 < length keys → raw ≡ get_or keys 0 raw → key ≡ raw_name raw → IfSome told (HasKey key)
 first_has_file None keys raw key listed is some at named = tt
 first_has_file (Some s) [] raw key listed is some at named = absurd (omega arith)
 first_has_file (Some s) (k ∷ keys) raw key listed is some at named =

@@ -13,59 +13,77 @@ each_true true true c e = (refl, refl, e)
 each_true true false c e = absurd (cc)
 each_true false b c e = absurd (cc)
 
+past : (b : Bool) (s : Snapshot) (o p : Option Snapshot)
+    → cond b (Some s) (option_or o p) ≡ option_or (cond b (Some s) o) p
+past true s o p = refl
+past false s o p = refl
+
+nothing_more : (o : Option Snapshot) → option_or o None ≡ o
+nothing_more None = refl
+nothing_more (Some s) = refl
+
 module _ (root node tag : List ℕ) where
-  is_for_own : (g : Given) → g.root ≡ root → g.node ≡ node → g.tag ≡ tag → is_for root node tag g ≡ true
-  is_for_own g r n t =
-      all_true _ _ _ ((bytes_eq-Decides g.root root).1 r) ((bytes_eq-Decides g.node node).1 n) ((bytes_eq-Decides g.tag tag).1 t)
+  abbrev IsOwn : Given → Type 0
+  IsOwn g = (g.root ≡ root) × (g.node ≡ node) × (g.tag ≡ tag)
 
-  own_parts : (g : Given) → is_for root node tag g ≡ true → (g.root ≡ root) × (g.node ≡ node) × (g.tag ≡ tag)
+  is_for_own : (g : Given) → IsOwn g → is_for root node tag g ≡ true
+  is_for_own g (r, n, t) =
+      all_true _ _ _
+      ((bytes_eq-Decides g.root root).1 r)
+      ((bytes_eq-Decides g.node node).1 n)
+      ((bytes_eq-Decides g.tag tag).1 t)
+
+  own_parts : (g : Given) → is_for root node tag g ≡ true → IsOwn g
   own_parts g is =
-      let parts = each_true _ _ _ is in
-      ((bytes_eq-Decides g.root root).0 parts.0, (bytes_eq-Decides g.node node).0 parts.1, (bytes_eq-Decides g.tag tag).0 parts.2)
+      let parts = each_true _ _ _ is in (
+        (bytes_eq-Decides g.root root).0 parts.0,
+        (bytes_eq-Decides g.node node).0 parts.1,
+        (bytes_eq-Decides g.tag tag).0 parts.2,
+      )
 
-  own : Given → Option Snapshot
-  own g = cond (is_for root node tag g) (Some (snapshot_with g.files g.schema)) None
+  abbrev first : List Given → Option Snapshot
+  first = first_for root node tag
 
-  past : (b : Bool) (s : Snapshot) (o p : Option Snapshot) → cond b (Some s) (option_or o p) ≡ option_or (cond b (Some s) o) p
-  past true s o p = refl
-  past false s o p = refl
+  abbrev held : Given → Snapshot
+  held g = snapshot_with g.files g.schema
 
-  first_more : (gs : List Given) (g : Given) → first_for root node tag (gs ++ g ∷ []) ≡ option_or (first_for root node tag gs) (own g)
-  unfolding own
+  abbrev own : Given → Option Snapshot
+  own g = cond (is_for root node tag g) (Some (held g)) None
+
+  first_more : (gs : List Given) (g : Given) → first (gs ++ g ∷ []) ≡ option_or (first gs) (own g)
   first_more [] g = refl
   first_more (h ∷ gs) g =
-      ap (λ o. cond (is_for root node tag h) (Some (snapshot_with h.files h.schema)) o) (first_more gs g)
-      ∙ past (is_for root node tag h) (snapshot_with h.files h.schema) (first_for root node tag gs) (own g)
+      ap (λ o. cond (is_for root node tag h) (Some (held h)) o) (first_more gs g)
+      ∙ past (is_for root node tag h) (held h) (first gs) (own g)
 
   -- where nothing was added before
-  pub added_here : (gs : List Given) (g : Given) → g.root ≡ root → g.node ≡ node → g.tag ≡ tag
-      → first_for root node tag gs ≡ None → first_for root node tag (gs ++ g ∷ []) ≡ Some (snapshot_with g.files g.schema)
-  unfolding own
-  added_here gs g r n t none =
+  pub added_here : (gs : List Given) (g : Given) → IsOwn g
+      → first gs ≡ None → first (gs ++ g ∷ []) ≡ Some (held g)
+  added_here gs g is none =
       first_more gs g
       ∙ ap (λ o. option_or o (own g)) none
-      ∙ ap (λ b. cond b (Some (snapshot_with g.files g.schema)) None) (is_for_own g r n t)
+      ∙ ap (λ b. cond b (Some (held g)) None) (is_for_own g is)
 
   -- the first that was added counts
-  pub added_before : (gs : List Given) (g : Given) → IfSome (first_for root node tag gs) (λ s. first_for root node tag (gs ++ g ∷ []) ≡ Some s)
-  added_before gs g = go (first_for root node tag gs) (first_more gs g)
+  pub added_before : (gs : List Given) (g : Given)
+      → IfSome (first gs) (λ s. first (gs ++ g ∷ []) ≡ Some s)
+  added_before gs g = go (first gs) (first_more gs g)
     where
-      go : (o : Option Snapshot) → first_for root node tag (gs ++ g ∷ []) ≡ option_or o (own g) → IfSome o (λ s. first_for root node tag (gs ++ g ∷ []) ≡ Some s)
+      go : (o : Option Snapshot) → first (gs ++ g ∷ []) ≡ option_or o (own g)
+          → IfSome o (λ s. first (gs ++ g ∷ []) ≡ Some s)
       go None e = tt
       go (Some s) e = e
 
-  nothing_more : (o : Option Snapshot) → option_or o None ≡ o
-  nothing_more None = refl
-  nothing_more (Some s) = refl
-
   -- one that was added for others
-  pub added_elsewhere : (gs : List Given) (g : Given) → ¬ ((root ≡ g.root) × (node ≡ g.node) × (tag ≡ g.tag)) → first_for root node tag (gs ++ g ∷ []) ≡ first_for root node tag gs
-  unfolding own
+  pub added_elsewhere : (gs : List Given) (g : Given)
+      → ¬ ((root ≡ g.root) × (node ≡ g.node) × (tag ≡ g.tag)) → first (gs ++ g ∷ []) ≡ first gs
   added_elsewhere gs g other = go (is_for root node tag g) refl
     where
-      go : (b : Bool) → is_for root node tag g ≡ b → first_for root node tag (gs ++ g ∷ []) ≡ first_for root node tag gs
-      go true is = let parts = own_parts g is in absurd (other (sym parts.0, sym parts.1, sym parts.2))
+      go : (b : Bool) → is_for root node tag g ≡ b → first (gs ++ g ∷ []) ≡ first gs
+      go true is =
+          let parts = own_parts g is in
+          absurd (other (sym parts.0, sym parts.1, sym parts.2))
       go false is =
           first_more gs g
-          ∙ ap (λ b. option_or (first_for root node tag gs) (cond b (Some (snapshot_with g.files g.schema)) None)) is
-          ∙ nothing_more (first_for root node tag gs)
+          ∙ ap (λ b. option_or (first gs) (cond b (Some (held g)) None)) is
+          ∙ nothing_more (first gs)

@@ -1,3 +1,4 @@
+pub mod Notes
 pub mod Moments
 pub mod Places
 pub mod Keys

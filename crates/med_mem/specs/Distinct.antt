@@ -6,6 +6,7 @@ use Rattle.std.specs.List.{filter}
 abbrev pub without : {K : Type 0} → (K → K → Bool) → K → List K → List K
 without is_same x xs = filter (λ y. not (is_same x y)) xs
 
+-- the first element, and the others without it
 abbrev pub distinct : {K : Type 0} → (K → K → Bool) → List K → List K
 distinct is_same [] = []
 distinct is_same (x ∷ xs) = x ∷ without is_same x (distinct is_same xs)

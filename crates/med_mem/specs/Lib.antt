@@ -1,4 +1,5 @@
 pub mod Told
+pub mod Calls
 pub mod ToldLaws
 pub mod Objects
 pub mod Distinct

@@ -1,5 +1,6 @@
 -- What the objects of a store in memory stand for, in byte order of their paths.
-use Rattle.std.specs.Prelude.{◌≡◌, ℕ, List, [], ◌++◌, map, take, drop, slice_index_or, IsTrue}
+use Rattle.std.specs.Prelude.{◌≡◌, ◌<◌, ◌≤◌, ℕ, List, [], ◌∷◌, ◌++◌, map, length, take, drop, slice_index_or}
+use Rattle.std.specs.declared.cmp.Ordering.TheVariants.{Less, Equal}
 use Rattle.std.specs.List.{filter}
 use Rattle.std.specs.Ordering.{nat_cmp}
 use Rattle.std.specs.Cmp.Lexicographic.{slice_cmp}
@@ -8,10 +9,12 @@ use Rattle.std.specs.FinMap.Entries.{put}
 use Rattle.med_base.specs.Content.{Object, is_under}
 use Rattle.med_outside.specs.Storage.{entry_of}
 use Rattle.med_outside.specs.declared.storage.Entry.{Entry}
-use Rattle.med_mem.specs.Told.{Note, note_of, content_after, are_made_by}
+use Rattle.med_mem.specs.Told.{Note, Told, content_after, AreMadeBy}
+use Rattle.med_mem.specs.Calls.{note_of}
 use Rattle.med_mem.specs.declared.object.MemObject.{MemObject}
 use Rattle.med_mem.specs.declared.object.Change.{Change}
 
+-- the bytes and the second
 abbrev pub object_of : MemObject → Object
 object_of o = record { bytes = o.bytes.items; second = o.second }
 
@@ -26,24 +29,58 @@ pub record IsNew (path bytes : List ℕ) (second : ℕ) (o : MemObject) : Type 0
 
 -- ---- for this crate's own clauses
 
+-- what the changes mean
 abbrev pub noted : List Change → List Note
 noted = map (λ (c : Change). note_of c.call c.object.path c.object.bytes.items c.object.second)
+
+-- what the fields of a store mean
+abbrev pub told_by : List Change → (clock tick calls faults : ℕ) → List ℕ → Told
+told_by changes clock tick calls faults layout = record {
+  notes = noted changes;
+  clock = clock;
+  tick = tick;
+  calls = calls;
+  faults = faults;
+  layout = layout;
+}
 
 -- the objects are what the changes leave, and no change was made in a later call
 pub record Tells (objects : List MemObject) (changes : List Change) (calls : ℕ) : Type 0 where
   pub same : entries (content_after (noted changes)) ≡ pairs objects
-  pub made_by : IsTrue (are_made_by calls (noted changes))
+  pub made_by : AreMadeBy calls (noted changes)
 
 -- the entries with an object in its place, or in place of the one there
 abbrev pub put_at : List ℕ → Object → List (List ℕ × Object) → List (List ℕ × Object)
 put_at = put (slice_cmp nat_cmp)
 
+-- the path of the object at i
 abbrev pub path_at : List MemObject → ℕ → List ℕ
 path_at objects i = slice_index_or (map (λ (o : MemObject). o.path) objects) i []
 
+-- the object at i has the path
+abbrev pub IsThere : List MemObject → List ℕ → ℕ → Type 0
+IsThere objects path i = (i < length objects) × (slice_cmp nat_cmp path (path_at objects i) ≡ Equal)
+
+-- the object at i, if there is one, has a greater path
+abbrev pub IsGap : List MemObject → List ℕ → ℕ → Type 0
+IsGap objects path i =
+    (i ≤ length objects)
+    × (i < length objects → slice_cmp nat_cmp path (path_at objects i) ≡ Less)
+
 -- an object of the path belongs at i or behind it
 abbrev pub IsPlace : List MemObject → List ℕ → ℕ → Type 0
-IsPlace objects path i = (v : Object) → take i (pairs objects) ++ put_at path v (drop i (pairs objects)) ≡ put_at path v (pairs objects)
+IsPlace os path i =
+    (v : Object) → take i (pairs os) ++ put_at path v (drop i (pairs os)) ≡ put_at path v (pairs os)
 
+-- the objects are the old ones with one more, or with one in place of another
+abbrev pub IsStored : List ℕ → Object → (old new : List MemObject) → Type 0
+IsStored path v old new = pairs new ≡ put_at path v (pairs old)
+
+-- one change more was noted
+abbrev pub IsNoted : Note → (old new : List Change) → Type 0
+IsNoted n old new = noted new ≡ noted old ++ n ∷ []
+
+-- the entries of those whose path begins with a text
 abbrev pub listed_under : List ℕ → List (List ℕ × Object) → List Entry
-listed_under text objects = map entry_of (filter (λ (e : List ℕ × Object). is_under text e.0) objects)
+listed_under text objects =
+    map entry_of (filter (λ (e : List ℕ × Object). is_under text e.0) objects)

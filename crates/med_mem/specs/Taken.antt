@@ -1,6 +1,7 @@
 -- What a sink in memory means.
 use Rattle.std.specs.Prelude.{ℕ, ◌+◌, ◌-◌, ◌^◌, min, List, ◌++◌, length}
 
+-- what a contract sees of a sink
 pub record Taken : Type 0 where
   -- the bytes that it has taken
   pub bytes : List ℕ

@@ -1,7 +1,7 @@
 // Nodes in memory, with the snapshots that were added to them.
-ghost use Rattle.std.specs.Prelude.{◌≡◌, [], List, ℕ, Some, None, IfOk, IfErr, IfSome, OnOk, OnErr, MatchOption, ◌≤◌, ◌+◌, ◌-◌, ◌^◌, min};
+ghost use Rattle.std.specs.Prelude.{◌≡◌, [], Some, None, IfOk, IfErr, OnOk, OnErr, ◌≤◌, ◌+◌, ◌-◌, ◌^◌, min};
 ghost use Rattle.med_outside.specs.declared.denied.Denied.TheVariants.{Memory};
-ghost use Rattle.med_mem.specs.Snaps.{snapshot_of, snapshot_at, held_by, added_for, is_for, first_for, given, given_as, given_for};
+ghost use Rattle.med_mem.specs.Snaps.{snapshot_of, snapshot_at, held_by, HasAdded, Keeps, KeepsOthers, is_for, first_for, given, given_as, given_for, shown};
 
 use crate::snapshot::{MemOpened, MemSnap};
 use med_base::{Fqdn, NoMemory};
@@ -54,9 +54,9 @@ impl MemNodes {
         tag: &str,
         snap: MemSnap,
     ) -> Result<(), NoMemory>
-        ensures here { OnOk result (added_for root.now node.now tag.now self.old ≡ None → added_for root.now node.now tag.now self.new ≡ Some (snapshot_of snap)) }
-        ensures before { (r n t : List ℕ) → IfSome (added_for r n t self.old) (λ s. added_for r n t self.new ≡ Some s) }
-        ensures elsewhere { (r n t : List ℕ) → ¬ ((r ≡ root.now) × (n ≡ node.now) × (t ≡ tag.now)) → added_for r n t self.new ≡ added_for r n t self.old }
+        ensures here { OnOk result (HasAdded root.now node.now tag.now (snapshot_of snap) self.old self.new) }
+        ensures before { Keeps self.old self.new }
+        ensures elsewhere { KeepsOthers root.now node.now tag.now self.old self.new }
         ensures err { OnErr result (self.new ≡ self.old) }
         ensures faults { self.new.faults ≡ self.old.faults }
     {
@@ -94,7 +94,7 @@ fn is_added_for(added: &Added, root: &str, node: &str, tag: &str) -> bool
 
 // The first that was added for the three.
 fn find_added<'a>(snaps: &'a [Added], root: &str, node: &str, tag: &str) -> Option<&'a MemSnap>
-    ensures { MatchOption result (first_for root.now node.now tag.now (given snaps.now) ≡ None) (λ snap. first_for root.now node.now tag.now (given snaps.now) ≡ Some (snapshot_of snap.now)) }
+    ensures { first_for root.now node.now tag.now (given snaps.now) ≡ shown result }
 {
     for added in snaps {
         if is_added_for(added, root, node, tag) {
@@ -121,7 +121,7 @@ impl Nodes for MemNodes {
         node: &Fqdn,
         tag: &str,
     ) -> Result<MemOpened, Denied>
-        ensures held { IfOk result (λ snap. held_by snap ≡ snapshot_at self.old root.now node.now tag.now) }
+        ensures held { IfOk result (λ s. held_by s ≡ snapshot_at self.old root.now node.now tag.now) }
         ensures fresh { IfOk result (λ snap. snap.faults ≡ 0) }
         ensures same { self.new ≡ self.old }
         ensures err { IfErr result (λ e. e ≡ Denied.Memory) }

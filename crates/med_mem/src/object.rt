@@ -1,10 +1,8 @@
 // The objects of a store, in byte order of their paths, and the changes that made them.
-ghost use Rattle.std.specs.Prelude.{◌≡◌, ◌<◌, ◌≤◌, ◌++◌, ◌∷◌, [], IfOk, IfErr, OnOk, OnErr, MatchResult, length};
-ghost use Rattle.std.specs.Ordering.{nat_cmp};
-ghost use Rattle.std.specs.Cmp.Lexicographic.{slice_cmp};
+ghost use Rattle.std.specs.Prelude.{◌≡◌, ◌<◌, IfOk, IfErr, OnOk, OnErr};
 ghost use Rattle.med_base.specs.Content.{is_under};
-ghost use Rattle.med_mem.specs.Told.{note_of};
-ghost use Rattle.med_mem.specs.Objects.{pairs, object_of, path_at, put_at, IsPlace, IsNew, listed_under, noted};
+ghost use Rattle.med_mem.specs.Calls.{note_of};
+ghost use Rattle.med_mem.specs.Objects.{pairs, object_of, IsThere, IsGap, IsPlace, IsNew, IsStored, IsNoted, listed_under, noted};
 
 use med_base::{NoMemory, ObjPath};
 use med_outside::Entry;
@@ -28,9 +26,10 @@ pub(crate) struct Change {
 
 // The place of a path among objects, or where it belongs.
 fn place_of(objects: &[MemObject], path: &str) -> Result<usize, usize>
-    ensures found { IfOk result (λ i. (i < length objects.now) × (slice_cmp nat_cmp path.now (path_at objects.now i) ≡ Ordering.Equal)) }
-    ensures gap { IfErr result (λ i. (i ≤ length objects.now) × (i < length objects.now → slice_cmp nat_cmp path.now (path_at objects.now i) ≡ Ordering.Less)) }
-    ensures place { MatchResult result (IsPlace objects.now path.now) (IsPlace objects.now path.now) }
+    ensures found { IfOk result (IsThere objects.now path.now) }
+    ensures gap { IfErr result (IsGap objects.now path.now) }
+    ensures at { IfOk result (IsPlace objects.now path.now) }
+    ensures place { IfErr result (IsPlace objects.now path.now) }
 {
     for (i, object) in objects.iter().enumerate() {
         match path.cmp(object.path.as_str()) {
@@ -44,7 +43,7 @@ fn place_of(objects: &[MemObject], path: &str) -> Result<usize, usize>
 
 // Puts an object in its place, or in place of the one there.
 fn store_object(objects: &mut Vec<MemObject>, object: MemObject) -> Result<(), NoMemory>
-    ensures ok { OnOk result (pairs objects.new.items ≡ put_at object.path (object_of object) (pairs objects.old.items)) }
+    ensures ok { OnOk result (IsStored object.path (object_of object) objects.old.items objects.new.items) }
     ensures err { OnErr result (objects.new.items ≡ objects.old.items) }
 {
     match place_of(objects.as_slice(), object.path.as_str()) {
@@ -88,9 +87,10 @@ pub(crate) fn put_object(
     bytes: &[u8],
     second: u64,
 ) -> Result<(), NoMemory>
-    ensures noted { OnOk result (noted changes.new.items ≡ noted changes.old.items ++ note_of call path.now bytes.now second ∷ []) }
-    ensures stored { OnOk result (pairs objects.new.items ≡ put_at path.now (record { bytes = bytes.now; second = second }) (pairs objects.old.items)) }
-    ensures same { OnErr result ((noted changes.new.items ≡ noted changes.old.items) × (pairs objects.new.items ≡ pairs objects.old.items)) }
+    ensures noted { OnOk result (IsNoted (note_of call path.now bytes.now second) changes.old.items changes.new.items) }
+    ensures stored { OnOk result (IsStored path.now (record { bytes = bytes.now; second = second }) objects.old.items objects.new.items) }
+    ensures same_notes { OnErr result (noted changes.new.items ≡ noted changes.old.items) }
+    ensures same_objects { OnErr result (pairs objects.new.items ≡ pairs objects.old.items) }
 {
     let object = new_object(alloc, path, bytes, second)?;
     let note = new_object(alloc, path, bytes, second)?;

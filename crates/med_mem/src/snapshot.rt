@@ -5,8 +5,7 @@ ghost use Rattle.std.specs.Map.{keys_of};
 ghost use Rattle.std.specs.FinMap.{find, get};
 ghost use Rattle.med_base.specs.Key.{key_cmp, key_eq};
 ghost use Rattle.med_outside.specs.Snapshot.{raw_name, HasKey};
-ghost use Rattle.med_mem.specs.Distinct.{distinct};
-ghost use Rattle.med_mem.specs.Snaps.{files_of, held_by};
+ghost use Rattle.med_mem.specs.Snaps.{files_of, order_of, opened, held_by};
 ghost use Rattle.med_outside.specs.declared.denied.Denied.TheVariants.{Memory};
 
 use med_base::{FileKey, NoMemory};
@@ -92,7 +91,7 @@ fn has_key(files: &[MemFile], key: &RawKey) -> bool
 
 // The keys without repeats, in the order of first occurrence.
 fn list_keys(alloc: Global, files: &[MemFile]) -> Result<Vec<RawKey>, NoMemory>
-    ensures { IfOk result (λ keys. map raw_name keys.items ≡ distinct key_eq (keys_of (files_of files.now))) }
+    ensures { IfOk result (λ keys. map raw_name keys.items ≡ order_of (files_of files.now)) }
 {
     let mut keys = Vec::new(alloc);
     for (i, file) in files.iter().enumerate() {
@@ -117,17 +116,17 @@ fn read_file(alloc: Global, files: &[MemFile], key: &FileKey) -> Result<Vec<u8>,
 }
 
 impl Model for MemOpened {
-    ghost use Rattle.med_mem.specs.Snaps.{Opened, files_of};
+    ghost use Rattle.med_mem.specs.Snaps.{Opened, opened};
 
     ghost Value = { Opened };
 
-    ghost view = { λ s. record { files = files_of s.snap.files.items; schema = s.snap.schema.items; faults = s.faults } };
+    ghost view = { λ s. opened s.snap.files.items s.snap.schema.items s.faults };
 }
 
 impl MemOpened {
     /// A snapshot that holds the same.
     pub(crate) fn of(alloc: Global, snap: &MemSnap) -> Result<MemOpened, NoMemory>
-        ensures { IfOk result (λ opened. opened ≡ record { files = files_of snap.now.files.items; schema = snap.now.schema.items; faults = 0 }) }
+        ensures { IfOk result (λ s. s ≡ opened snap.now.files.items snap.now.schema.items 0) }
     {
         let files = copy_files(alloc, snap.files.as_slice())?;
         let schema = snap.schema.as_slice().to_vec(alloc)?;
@@ -139,7 +138,7 @@ impl MemOpened {
 
     /// A snapshot without files.
     pub(crate) fn empty(alloc: Global) -> MemOpened
-        ensures { result ≡ record { files = []; schema = []; faults = 0 } }
+        ensures { result ≡ opened [] [] 0 }
     {
         MemOpened {
             snap: MemSnap {
@@ -169,7 +168,7 @@ impl Snap for MemOpened {
     ghost listed_once = { λ s. listed_once_of s.files s.schema };
 
     fn keys(&mut self, alloc: Global) -> Result<Vec<RawKey>, Denied>
-        ensures keys { IfOk result (λ keys. map raw_name keys.items ≡ distinct key_eq (keys_of self.old.files)) }
+        ensures keys { IfOk result (λ keys. map raw_name keys.items ≡ order_of self.old.files) }
         ensures same { self.new ≡ self.old }
         ensures err { IfErr result (λ e. e ≡ Denied.Memory) }
     {
@@ -178,7 +177,7 @@ impl Snap for MemOpened {
 
     fn read(&mut self, alloc: Global, key: &FileKey) -> Result<Vec<u8>, Denied>
         requires { HasKey key.now (held_by self.old) }
-        ensures bytes { IfOk result (λ bytes. get (held_by self.old).files key.now ≡ Some bytes.items) }
+        ensures bytes { IfOk result (λ b. get (held_by self.old).files key.now ≡ Some b.items) }
         ensures same { self.new ≡ self.old }
         ensures err { IfErr result (λ e. e ≡ Denied.Memory) }
     {

@@ -1,12 +1,11 @@
 // A storage in memory. It keeps a record of its changes, which tells the contents that stood.
-ghost use Rattle.std.specs.Prelude.{◌≡◌, [], IfOk, OnOk, OnErr, MatchResult};
+ghost use Rattle.std.specs.Prelude.{◌≡◌, IfOk, OnOk, OnErr};
 ghost use Rattle.std.specs.FinMap.{entries};
-ghost use Rattle.med_base.specs.Content.{with_object};
 ghost use Rattle.med_outside.specs.Causes.{HasCause};
-ghost use Rattle.med_outside.specs.State.{Moves, with_layout};
-ghost use Rattle.med_outside.specs.Storage.{Put, listing};
+ghost use Rattle.med_outside.specs.Storage.{listing};
 ghost use Rattle.med_mem.specs.Objects.{pairs};
-ghost use Rattle.med_mem.specs.Told.{content_of, state_of, stood_since_of, with_added, with_clock, Counts, Stays, Ticks, Rests};
+ghost use Rattle.med_mem.specs.Told.{content_of};
+ghost use Rattle.med_mem.specs.Calls.{new_at, Gains, with_added, with_clock, IsOpened, IsPut, Counts, Stays, Ticks, Rests};
 
 use crate::MemObject;
 use crate::object::{Change, copy_objects, list_under, put_object};
@@ -29,11 +28,11 @@ pub struct MemStore {
 
 impl Model for MemStore {
     ghost use Rattle.med_mem.specs.Told.{Told};
-    ghost use Rattle.med_mem.specs.Objects.{noted, Tells};
+    ghost use Rattle.med_mem.specs.Objects.{told_by, Tells};
 
     ghost Value = { Told };
 
-    ghost view = { λ m. record { notes = noted m.changes.items; clock = m.clock; tick = m.tick; calls = m.calls; faults = m.faults; layout = m.layout } };
+    ghost view = { λ m. told_by m.changes.items m.clock m.tick m.calls m.faults m.layout };
 
     ghost invariant = { λ m. Tells m.objects.items m.changes.items m.calls };
 }
@@ -43,7 +42,7 @@ impl MemStore {
     /// the clock, in seconds, and each put that takes effect adds a tick to it afterwards, up to
     /// the last value. It takes no memory.
     pub fn new(alloc: Global, clock: u64, tick: u64) -> MemStore
-        ensures { result ≡ record { notes = []; clock = clock; tick = tick; calls = 0; faults = 0; layout = [] } }
+        ensures { result ≡ new_at clock tick }
     {
         MemStore {
             objects: Vec::new(alloc),
@@ -67,7 +66,7 @@ impl MemStore {
         bytes: Vec<u8>,
         second: u64,
     ) -> Result<(), NoMemory>
-        ensures content { OnOk result (content_of self.new ≡ with_object path bytes.items second (content_of self.old)) }
+        ensures content { OnOk result (Gains path bytes.items second self.old self.new) }
         ensures ok { OnOk result (self.new ≡ with_added path bytes.items second self.old) }
         ensures err { OnErr result (self.new ≡ self.old) }
     {
@@ -117,9 +116,9 @@ impl Storage for MemStore {
         _bucket: &str,
         prefix: &Layout,
     ) -> Result<(), Denied>
-        ensures ok { OnOk result (Moves [] (with_layout prefix.now (state_of self.old)) (state_of self.new) (stood_since_of self.old) (stood_since_of self.new)) }
+        ensures ok { OnOk result (IsOpened prefix.now self.old self.new) }
         ensures err { OnErr result (Stays self.old self.new) }
-        ensures time { Rests self.old self.new }
+        ensures rests { Rests self.old self.new }
         ensures counts { Counts self.old self.new result }
         ensures cause { HasCause self.old.faults self.new.faults result }
     {
@@ -146,9 +145,10 @@ impl Storage for MemStore {
     }
 
     fn put(&mut self, alloc: Global, path: &ObjPath, bytes: &[u8]) -> Result<u64, Denied>
-        ensures ok { IfOk result (Put path.now bytes.now (state_of self.old) (state_of self.new) (stood_since_of self.old) (stood_since_of self.new)) }
+        ensures ok { IfOk result (IsPut path.now bytes.now self.old self.new) }
         ensures err { OnErr result (Stays self.old self.new) }
-        ensures time { MatchResult result (λ _. Ticks self.old self.new) (λ _. Rests self.old self.new) }
+        ensures ticks { OnOk result (Ticks self.old self.new) }
+        ensures rests { OnErr result (Rests self.old self.new) }
         ensures counts { Counts self.old self.new result }
         ensures cause { HasCause self.old.faults self.new.faults result }
     {
@@ -172,9 +172,9 @@ impl Storage for MemStore {
     }
 
     fn list(&mut self, alloc: Global, under: &str) -> Result<Vec<Entry>, Denied>
-        ensures entries { IfOk result (λ entries. entries.items ≡ listing under.now (content_of self.old)) }
+        ensures entries { IfOk result (λ es. es.items ≡ listing under.now (content_of self.old)) }
         ensures looks { Stays self.old self.new }
-        ensures time { Rests self.old self.new }
+        ensures rests { Rests self.old self.new }
         ensures counts { Counts self.old self.new result }
         ensures cause { HasCause self.old.faults self.new.faults result }
     {

@@ -7,7 +7,7 @@ use Rattle.med_mem.proofs.object.store_object.Goals as goal
 pub returns-in-Ok-clause-ok : goal.returns-in-Ok-clause-ok
 returns-in-Ok-clause-ok c =
     let found = rw (c.as_slice.ensures.value, c.as_str.ensures) at c.in-Ok.ensures.found in
-    let place = rw (c.as_slice.ensures.value, c.as_str.ensures) at c.in-Ok.ensures.place in
+    let place = rw (c.as_slice.ensures.value, c.as_str.ensures) at c.in-Ok.ensures.at in
     replaced _ _ _ _ _ found.0 found.1
     (ap (λ (o : MemObject). o.path) c.index_mut-there.ensures.value ∙ path_of _ _ _ found.0) refl
     ∙ place _
@@ -16,4 +16,5 @@ pub returns-in_ok-insert-in-Err-clause-ok : goal.returns-in_ok-insert-in-Err-cla
 returns-in_ok-insert-in-Err-clause-ok c =
     let gap = rw (c.as_slice.ensures.value, c.as_str.ensures) at c.in-Err.ensures.gap in
     let place = rw (c.as_slice.ensures.value, c.as_str.ensures) at c.in-Err.ensures.place in
-    ap pairs c.in_ok-insert-in-Err.ensures.items ∙ inserted _ _ _ _ _ gap.0 gap.1 refl refl ∙ place _
+    ap pairs c.in_ok-insert-in-Err.ensures.items
+    ∙ inserted _ _ _ _ _ gap.0 gap.1 refl refl ∙ place _

@@ -8,12 +8,16 @@ pub returns-clause-here : goal.returns-clause-here
 returns-clause-here c =
     let a = c.args in
     let one = given_for a.root.now a.node.now a.tag.now a.snap in
+    let before = given c.self.inside.snaps.items in
     rw (← c.self.view_is, c.in_ok-push.ensures.items, map-append, c.in_ok-added.ensures)
-    (λ none. added_here a.root.now a.node.now a.tag.now (given c.self.inside.snaps.items) one refl refl refl none)
+    (added_here a.root.now a.node.now a.tag.now before one (refl, refl, refl))
 
 pub returns-clause-before : goal.returns-clause-before
-returns-clause-before c = rw (← c.self.view_is, c.in_ok-push.ensures.items, map-append) (λ r n t. added_before r n t _ _)
+returns-clause-before c =
+    rw (← c.self.view_is, c.in_ok-push.ensures.items, map-append)
+    (λ r n t. added_before r n t _ _)
 
 pub returns-clause-elsewhere : goal.returns-clause-elsewhere
 returns-clause-elsewhere c =
-    rw (← c.self.view_is, c.in_ok-push.ensures.items, map-append, c.in_ok-added.ensures) (λ r n t other. added_elsewhere r n t _ _ other)
+    rw (← c.self.view_is, c.in_ok-push.ensures.items, map-append, c.in_ok-added.ensures)
+    (λ r n t other. added_elsewhere r n t _ _ other)
