@@ -1,0 +1,29 @@
+SHELL := /bin/bash
+.SHELLFLAGS := -euo pipefail -c
+.ONESHELL:
+.PHONY: run test
+
+# The gate: every proof from nothing, the wrong bodies, the tests, the programs, the documents.
+test:
+	@.ci/run
+
+# Builds the proved program, and backs up the example node of crates/medusa/data in a new folder.
+run:
+	@room=$$(mktemp -d)
+	trap 'rm -rf "$$room"' EXIT
+	echo 'proving and building crates/medusa' >&2
+	# Without words the program answers its usage with status 2, and writes no file.
+	status=0
+	(cd crates/medusa && rt run) > "$$room/said" 2>&1 || status=$$?
+	if [ "$$status" != 2 ] || ! grep -q '^medusa: usage: ' "$$room/said"; then
+		cat "$$room/said" >&2
+		exit 1
+	fi
+	medusa=$$PWD/crates/medusa/out/medusa
+	mkdir "$$room/node"
+	cp -r crates/medusa/data/. "$$room/node"
+	cd "$$room/node"
+	"$$medusa" backup --backup-name b1 --mode full
+	find b -type f | LC_ALL=C sort
+	cat b/k/n1/b1/meta/manifest.json
+	echo
