@@ -1,5 +1,5 @@
 -- A backup after calls that changed no content.
-use Rattle.std.proofs.Common.{◌≡◌, ◌≤◌, ◌+◌, ◌-◌, ◌^◌, min, ℕ, List, [], Option, Result, IfOk, IfErr, OnOk, Ok, Err, ◌∙◌, subst, arith}
+use Rattle.std.proofs.Common.{◌≡◌, ◌⊎◌, ◌≤◌, ◌+◌, ◌-◌, ◌^◌, inl, min, refl, ℕ, List, [], Option, Result, IfOk, IfErr, OnOk, Ok, Err, ◌∙◌, subst, arith}
 use Rattle.med_base.specs.declared.key.FileKey.{FileKey}
 use Rattle.med_base.specs.Content.{Content}
 use Rattle.med_manifest.specs.declared.manifest.FileRecord.{FileRecord}
@@ -8,6 +8,7 @@ use Rattle.med_outside.specs.State.{State, Passes}
 use Rattle.med_outside.proofs.Passing.{passes_on, after_all-nothing}
 use Rattle.med_commands.specs.Answers.{IsCaused, IsCausedOf, IsFound, IsCopied, IsMade, IsCutShort, Leaves}
 use Rattle.med_commands.specs.Copies.{backup_puts}
+use Rattle.med_commands.specs.Taken.{IsFree}
 use Rattle.med_commands.specs.declared.place.CopyFault.{CopyFault}
 use Rattle.med_commands.specs.declared.place.CopyFault.TheVariants.{Snap, Store, Memory}
 use Rattle.med_commands.specs.declared.look.Refusal.{Refusal}
@@ -76,10 +77,15 @@ module _ (before f n : List ℕ) (held : Option Snapshot) where
   }
 
   pub cut_after : (s0 s1 s2 : State) (p0 p1 p2 : ℕ → Content → Type 0) → Passes [] s0 s1 p0 p1 → IsCutShort before f n held s1 s2 p1 p2 → IsCutShort before f n held s0 s2 p0 p2
-  cut_after s0 s1 s2 p0 p1 p2 first c = record { done = c.done; begun = c.begun; passes = passes_on [] c.done s0 s1 s2 p0 p1 p2 first c.passes }
+  cut_after s0 s1 s2 p0 p1 p2 first c = record {
+    done = c.done;
+    begun = c.begun;
+    was_free = subst (λ (told : Option Content). (c.done ≡ []) ⊎ IsFree before f n told) (same_content s0 s1 p0 p1 first) c.was_free;
+    passes = passes_on [] c.done s0 s1 s2 p0 p1 p2 first c.passes;
+  }
 
   pub nothing_cut : (s0 s1 : State) (p0 p1 : ℕ → Content → Type 0) → Passes [] s0 s1 p0 p1 → IsCutShort before f n held s0 s1 p0 p1
-  nothing_cut s0 s1 p0 p1 passes = record { done = []; begun = any_begun before f n held; passes = passes }
+  nothing_cut s0 s1 p0 p1 passes = record { done = []; begun = any_begun before f n held; was_free = inl refl; passes = passes }
 
   -- nothing was put, whatever the refusal
   pub nothing_left : (s0 s1 : State) (p0 p1 : ℕ → Content → Type 0) → Passes [] s0 s1 p0 p1 → (refusal : Refusal) → Leaves before f n held s0 s1 p0 p1 refusal

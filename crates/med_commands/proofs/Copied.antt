@@ -21,6 +21,7 @@ use Rattle.med_outside.proofs.Passing.{passes_on}
 use Rattle.med_commands.specs.Answers.{CanBeCopied, IsCopied, IsCutShort}
 use Rattle.med_commands.specs.Copies.{Copy, key_of, put_of, records_of, backup_puts, AreOf, AreCopies, IsBegun}
 use Rattle.med_commands.specs.Placing.{PlacesAll, PlacesSome, MayStore}
+use Rattle.med_commands.specs.Taken.{IsFree}
 use Rattle.med_commands.proofs.Lists.{map-append, all_with, all_unmap, all_back}
 use Rattle.med_commands.proofs.Placed.{none_of, of_both}
 
@@ -160,22 +161,24 @@ module _ (before f n : List ℕ) (held : Option Snapshot) where
   }
 
   -- the put of the schema broke off
-  pub schema_cut : (order : List FileKey) (schema : List ℕ) (old new : State) (past since : ℕ → Content → Type 0) → CanBeCopied held order schema
+  pub schema_cut : (order : List FileKey) (schema : List ℕ) (old new : State) (past since : ℕ → Content → Type 0) → CanBeCopied held order schema → IsFree before f n old.content
       → MayStore (meta_path before f n Schema) schema old new past since → IsCutShort before f n held old new past since
-  schema_cut order schema old new past since can (inl moves) = record { done = []; begun = none_begun order schema can; passes = moves.passes }
-  schema_cut order schema old new past since can (inr (at, moves)) = record {
+  schema_cut order schema old new past since can free (inl moves) = record { done = []; begun = none_begun order schema can; was_free = inr free; passes = moves.passes }
+  schema_cut order schema old new past since can free (inr (at, moves)) = record {
     done = Stores (meta_path before f n Schema) schema at ∷ [];
     begun = some_begun order schema at [] order can refl (none_of held);
+    was_free = inr free;
     passes = moves.passes;
   }
 
   -- the schema was put, and placing the files broke off
-  pub files_cut : (order : List FileKey) (schema : List ℕ) (at : ℕ) (s0 s1 s2 : State) (p0 p1 p2 : ℕ → Content → Type 0) → CanBeCopied held order schema
+  pub files_cut : (order : List FileKey) (schema : List ℕ) (at : ℕ) (s0 s1 s2 : State) (p0 p1 p2 : ℕ → Content → Type 0) → CanBeCopied held order schema → IsFree before f n s0.content
       → Moves (Stores (meta_path before f n Schema) schema at ∷ []) s0 s1 p0 p1 → PlacesSome before f n held order s1 s2 p1 p2
       → IsCutShort before f n held s0 s2 p0 p2
-  files_cut order schema at s0 s1 s2 p0 p1 p2 can first some = record {
+  files_cut order schema at s0 s1 s2 p0 p1 p2 can free first some = record {
     done = Stores (meta_path before f n Schema) schema at ∷ map (put_of before f n) some.places.copies;
     begun = some_begun order schema at some.places.copies some.rest can (some.split ∙ ap (λ l. l ++ some.rest) (sym some.places.keys_are)) some.places.bytes_are;
+    was_free = inr free;
     passes = passes_on (Stores (meta_path before f n Schema) schema at ∷ []) (map (put_of before f n) some.places.copies) s0 s1 s2 p0 p1 p2 first.passes some.places.moves.passes;
   }
 
@@ -191,23 +194,25 @@ module _ (before f n : List ℕ) (held : Option Snapshot) where
 
   -- the put of the manifest broke off
   pub manifest_cut : (order : List FileKey) (schema : List ℕ) (at : ℕ) (files : List FileRecord) (text : List ℕ) (s0 s1 s2 s3 : State) (p0 p1 p2 p3 : ℕ → Content → Type 0)
-      → CanBeCopied held order schema → text ≡ manifest_text files
+      → CanBeCopied held order schema → IsFree before f n s0.content → text ≡ manifest_text files
       → Moves (Stores (meta_path before f n Schema) schema at ∷ []) s0 s1 p0 p1 → PlacesAll before f n held order s1 s2 p1 p2 files
       → MayStore (meta_path before f n Manifest) text s2 s3 p2 p3 → IsCutShort before f n held s0 s3 p0 p3
-  manifest_cut order schema at files text s0 s1 s2 s3 p0 p1 p2 p3 can text_is first all (inl moves) =
+  manifest_cut order schema at files text s0 s1 s2 s3 p0 p1 p2 p3 can free text_is first all (inl moves) =
       let copies = all.places.copies in
       let done = Stores (meta_path before f n Schema) schema at ∷ map (put_of before f n) copies in
       let passed = passes_on (Stores (meta_path before f n Schema) schema at ∷ []) (map (put_of before f n) copies) s0 s1 s2 p0 p1 p2 first.passes all.places.moves.passes in
       record {
         done = done;
         begun = some_begun order schema at copies [] can (sym all.places.keys_are ∙ sym (append-nil (map key_of copies))) all.places.bytes_are;
+        was_free = inr free;
         passes = subst (λ (l : List Effect). Passes l s0 s3 p0 p3) (append-nil done) (passes_on done [] s0 s2 s3 p0 p2 p3 passed moves.passes);
       }
-  manifest_cut order schema at files text s0 s1 s2 s3 p0 p1 p2 p3 can text_is first all (inr (end, moves)) =
+  manifest_cut order schema at files text s0 s1 s2 s3 p0 p1 p2 p3 can free text_is first all (inr (end, moves)) =
       let copies = all.places.copies in
       record {
         done = backup_puts before f n schema at copies end;
         begun = all_begun order schema at copies end can (sym all.places.keys_are) all.places.bytes_are;
+        was_free = inr free;
         passes = all_passed schema at copies end s0 s1 s2 s3 p0 p1 p2 p3 first all.places.moves
             (subst (λ (t : List ℕ). Moves (Stores (meta_path before f n Manifest) t end ∷ []) s2 s3 p2 p3) (text_is ∙ ap manifest_text all.files_are) moves);
       }

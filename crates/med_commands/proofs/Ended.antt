@@ -1,5 +1,5 @@
 -- What a backup that was made, and each fault, say of the whole call.
-use Rattle.std.proofs.Common.{◌≡◌, inl, inr, ℕ, false, List, [], map, Option, Some, None, IfSome, refl, sym, ◌∙◌, subst, append-nil}
+use Rattle.std.proofs.Common.{◌≡◌, ◌⊎◌, inl, inr, ℕ, false, List, [], map, Option, Some, None, IfSome, refl, sym, ◌∙◌, subst, append-nil}
 use Rattle.std.specs.Prelude.{is_some}
 use Rattle.std.specs.List.{AllByRecursion}
 use Rattle.std.specs.FinMap.{keys}
@@ -16,10 +16,11 @@ use Rattle.med_outside.specs.State.{State, Passes}
 use Rattle.med_commands.specs.Answers.{IsMade, IsCutShort, BlamesLook, Leaves, IsCausedOf}
 use Rattle.med_commands.specs.Backup.{IsFinished, IsBackupOf}
 use Rattle.med_commands.specs.Calls.{Call, IsFaultOf, IsUnprinted, IsEndOf}
-use Rattle.med_commands.specs.Copies.{Copy, key_of, records_of, backup_puts, AreOf}
+use Rattle.med_commands.specs.Copies.{Copy, key_of, records_of, backup_puts, AreOf, IsBegun}
 use Rattle.med_commands.specs.Fault.{fault_for}
 use Rattle.med_commands.specs.Headline.{node_name, Asks, IfTold, IsDone, HasMoments}
 use Rattle.med_commands.specs.Report.{report_line}
+use Rattle.med_commands.specs.Taken.{IsFree}
 use Rattle.med_commands.specs.Words.{asked_name, is_refused}
 use Rattle.med_commands.specs.declared.fault.Fault.{Fault}
 use Rattle.med_commands.specs.declared.fault.Fault.TheVariants.{Line, BadName, Taken, Read, Storage, Write, NoSnapshot, BadFileName, Memory}
@@ -87,6 +88,7 @@ made_moments words snap n old new past since files asks m = record {
   begun = inr (
     n,
     asks,
+    m.found.was_free,
     record {
       schema = m.schema;
       at = m.copied.at;
@@ -106,7 +108,12 @@ made_moments words snap n old new past since files asks m = record {
 
 cut_moments : (words : List (List ℕ)) (snap : List ℕ → Option Snapshot) (n : List ℕ) (old new : State) (past since : ℕ → Content → Type 0)
     → Asks words n → IsCutShort [] node_name n (snap n) old new past since → HasMoments words snap old new past since
-cut_moments words snap n old new past since asks cut = record { done = cut.done; begun = inr (n, asks, cut.begun); passes = cut.passes }
+cut_moments words snap n old new past since asks cut = record { done = cut.done; begun = begun cut.was_free; passes = cut.passes }
+  where
+    begun : (cut.done ≡ []) ⊎ IsFree [] node_name n old.content
+        → (cut.done ≡ []) ⊎ ((m : List ℕ) × Asks words m × IsFree [] node_name m old.content × IsBegun [] node_name m (snap m) cut.done)
+    begun (inl none) = inl none
+    begun (inr free) = inr (n, asks, free, cut.begun)
 
 pub left_moments : (words : List (List ℕ)) (snap : List ℕ → Option Snapshot) (n : List ℕ) (old new : State) (past since : ℕ → Content → Type 0) (r : Refusal)
     → Asks words n → Leaves [] node_name n (snap n) old new past since r → HasMoments words snap old new past since

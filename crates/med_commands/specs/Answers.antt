@@ -1,9 +1,9 @@
 -- What a backup answers to a snapshot over a storage, and what it leaves.
-use Rattle.std.specs.Prelude.{◌≡◌, ℕ, List, [], map, Option, Some, IfSome}
+use Rattle.std.specs.Prelude.{◌≡◌, ◌⊎◌, ℕ, List, [], map, Option, Some, IfSome}
 use Rattle.std.specs.List.{AllByRecursion}
 use Rattle.std.specs.FinMap.{keys}
 use Rattle.med_base.specs.declared.key.FileKey.{FileKey}
-use Rattle.med_base.specs.Content.{Content, objects_under}
+use Rattle.med_base.specs.Content.{Content}
 use Rattle.med_base.specs.Key.{AreRising, IsKey}
 use Rattle.med_base.specs.Layout.{backup_folder}
 use Rattle.med_manifest.specs.declared.manifest.FileRecord.{FileRecord}
@@ -14,7 +14,7 @@ use Rattle.med_outside.specs.Effects.{Effect}
 use Rattle.med_outside.specs.Snapshot.{Snapshot}
 use Rattle.med_outside.specs.State.{State, Passes}
 use Rattle.med_commands.specs.Copies.{Copy, key_of, records_of, backup_puts, AreOf, IsBegun}
-use Rattle.med_commands.specs.Taken.{IsFirstUnder}
+use Rattle.med_commands.specs.Taken.{IsFree, IsFirstUnder}
 use Rattle.med_commands.specs.Walked.{CanBeWalked, IsFirstBad}
 use Rattle.med_commands.specs.declared.place.CopyFault.{CopyFault}
 use Rattle.med_commands.specs.declared.place.CopyFault.TheVariants.{Snap, Store, Memory}
@@ -38,7 +38,7 @@ pub record CanBeCopied (held : Option Snapshot) (order : List FileKey) (schema :
 pub record IsFound (before f n : List ℕ) (held : Option Snapshot) (told : Option Content) (order : List FileKey) (schema : List ℕ) : Type 0 where
   pub can : CanBeCopied held order schema
   pub walked : IfSome held CanBeWalked
-  pub was_free : IfSome told (λ c. objects_under (backup_folder before f n) c ≡ [])
+  pub was_free : IsFree before f n told
 
 -- why a backup is refused before it puts anything
 abbrev pub BlamesLook : (before f n : List ℕ) → Option Snapshot → Option Content → Refusal → Type 0
@@ -73,10 +73,12 @@ pub record IsMade (before f n : List ℕ) (held : Option Snapshot) (old new : St
   pub found : IsFound before f n held old.content order schema
   pub copied : IsCopied before f n held order schema old new past since files
 
--- the first puts of a backup were made, or none; the last of them may have answered a failure
+-- The first puts of a backup were made, or none; the last of them may have answered a failure.
+-- Where one was made the name was free.
 pub record IsCutShort (before f n : List ℕ) (held : Option Snapshot) (old new : State) (past since : ℕ → Content → Type 0) : Type 0 where
   pub done : List Effect
   pub begun : IsBegun before f n held done
+  pub was_free : (done ≡ []) ⊎ IsFree before f n old.content
   pub passes : Passes done old new past since
 
 -- what stands after a refusal: all as before, or after a fault the first puts of a backup

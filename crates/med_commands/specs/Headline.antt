@@ -1,7 +1,7 @@
 -- What the top call promises of a backup: a clause for each status.
 -- The fixed bucket, node and folder of nodes stand here until a config file names them.
 use Rattle.std.specs.Prelude.{◌≡◌, ◌⊎◌, ℕ, List, [], Option, Some, None, IfSome, codes}
-use Rattle.med_base.specs.Content.{Content, objects_under}
+use Rattle.med_base.specs.Content.{Content}
 use Rattle.med_base.specs.Layout.{backup_folder}
 use Rattle.med_base.specs.Names.{backup_fault}
 use Rattle.med_manifest.specs.declared.manifest.FileRecord.{FileRecord}
@@ -12,7 +12,7 @@ use Rattle.med_commands.specs.Backup.{IsFinished, IsBackupOf}
 use Rattle.med_commands.specs.Copies.{IsBegun}
 use Rattle.med_commands.specs.Report.{report_line}
 use Rattle.med_commands.specs.Texts.{tag_of, taken_text, no_snapshot_text, bad_file_text}
-use Rattle.med_commands.specs.Taken.{IsFirstUnder}
+use Rattle.med_commands.specs.Taken.{IsFree, IsFirstUnder}
 use Rattle.med_commands.specs.Walked.{CanBeWalked, IsFirstBad}
 use Rattle.med_commands.specs.Words.{asked_name}
 
@@ -37,7 +37,7 @@ pub record IsDone (n : List ℕ) (held : Option Snapshot) (old new : State) (fil
   pub finished : IfTold old.content new.content (λ c d. IsFinished [] node_name n c d files)
   pub backup : IfTold old.content new.content (λ c d. IfSome held (λ s. IsBackupOf [] node_name n s c d files))
   pub walked : IfSome held CanBeWalked
-  pub was_free : IfSome old.content (λ c. objects_under (backup_folder [] node_name n) c ≡ [])
+  pub was_free : IsFree [] node_name n old.content
 
 -- the snapshot that a backup of this name copies
 abbrev pub snap_of : (List ℕ → List ℕ → List ℕ → Option Snapshot) → List ℕ → Option Snapshot
@@ -69,8 +69,10 @@ pub record HasBadSnapshot (words : List (List ℕ)) (snap : List ℕ → Option 
       ⊎ ((at : ℕ) × IfSome (snap name) (λ s. IsFirstBad at s.order) × says (bad_file_text at))
 
 -- Every content that stood since the call began is the one before with the first puts of the
--- asked backup, and what stands at the end is the last such content.
+-- asked backup, whose name was free, and what stands at the end is the last such content.
 pub record HasMoments (words : List (List ℕ)) (snap : List ℕ → Option Snapshot) (old new : State) (past since : ℕ → Content → Type 0) : Type 0 where
   pub done : List Effect
-  pub begun : (done ≡ []) ⊎ ((n : List ℕ) × Asks words n × IsBegun [] node_name n (snap n) done)
+  pub begun :
+      (done ≡ [])
+      ⊎ ((n : List ℕ) × Asks words n × IsFree [] node_name n old.content × IsBegun [] node_name n (snap n) done)
   pub passes : Passes done old new past since

@@ -1,6 +1,6 @@
 // Copying what was found: the schema, the files, and the manifest that names them.
 ghost use Rattle.std.specs.Prelude.{◌≡◌, ◌≤◌, IfOk, IfErr, OnErr};
-ghost use Rattle.med_commands.specs.Answers.{CanBeCopied, IsCaused, IsCopied, IsCutShort};
+ghost use Rattle.med_commands.specs.Answers.{IsFound, IsCaused, IsCopied, IsCutShort};
 
 use crate::look::Found;
 use crate::place::{CopyFault, place_all, put_meta};
@@ -19,7 +19,7 @@ pub(crate) fn copy_found<S: Storage, P: Snap>(
     name: &BackupName,
     found: &Found,
 ) -> Result<Vec<FileRecord>, CopyFault>
-    requires { CanBeCopied (P.held snap.old) found.now.keys.items found.now.schema.items }
+    requires { IsFound layout.now node.now name.now (P.held snap.old) (S.state store.old).content found.now.keys.items found.now.schema.items }
     ensures ok { IfOk result (λ files. IsCopied layout.now node.now name.now (P.held snap.old) found.now.keys.items found.now.schema.items (S.state store.old) (S.state store.new) (S.stood_since store.old) (S.stood_since store.new) files.items) }
     ensures err { OnErr result (IsCutShort layout.now node.now name.now (P.held snap.old) (S.state store.old) (S.state store.new) (S.stood_since store.old) (S.stood_since store.new)) }
     ensures snap_later { P.faults snap.old ≤ P.faults snap.new }

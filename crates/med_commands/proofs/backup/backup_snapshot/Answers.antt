@@ -1,4 +1,4 @@
-use Rattle.med_commands.proofs.Composed.{copied_after, nothing_left, cut_after}
+use Rattle.med_commands.proofs.Composed.{same_content, copied_after, nothing_left, cut_after}
 use Rattle.med_commands.proofs.backup.backup_snapshot.Goals as goal
 
 pub returns-in-Err-clause-leaves : goal.returns-in-Err-clause-leaves
@@ -8,7 +8,10 @@ returns-in-Err-clause-leaves g c =
     c.look.ensures.looks.moves.passes c.in-Err.refusal
 
 pub copy_found-requires : goal.copy_found-requires
-copy_found-requires g c = rw c.look.ensures.same c.in-Ok.ensures.ok.can
+copy_found-requires g c =
+    let content = same_content (g.S.Storage.state c.args.store.now) (g.S.Storage.state c.look.new.store) (g.S.Storage.stood_since c.args.store.now) (g.S.Storage.stood_since c.look.new.store)
+    c.look.ensures.looks.moves.passes in
+    rw (c.look.ensures.same, content) c.in-Ok.ensures.ok
 
 pub returns-in-Ok-copy_found-clause-ok : goal.returns-in-Ok-copy_found-clause-ok
 returns-in-Ok-copy_found-clause-ok g c = record {
