@@ -18,5 +18,5 @@ mod status;
 mod words;
 
 pub use keys::{WalkError, walk};
-pub use main_call::medusa_main;
+pub use main_call::{medusa_main, tell_no_memory};
 pub use status::Status;

@@ -182,3 +182,12 @@ pub fn medusa_main<S: Storage, N: Nodes, O: Sink, E: Sink>(
         Err(fault) => tell(err, &fault).code(),
     }
 }
+
+/// Tells on `err` that there was no memory for the words, and answers the status for it.
+pub fn tell_no_memory<E: Sink>(err: &mut E) -> u8
+    ensures status { result ≡ code Memory }
+    ensures line { Complains (codes "out of memory") (E.taken err.old) (E.taken err.new) (E.faults err.old) (E.faults err.new) }
+    ensures later { E.faults err.old ≤ E.faults err.new }
+{
+    tell(err, &Fault::Memory).code()
+}
