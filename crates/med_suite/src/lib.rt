@@ -1,0 +1,10 @@
+//! Tests that cross crates: the worked rows of the commands over the outside in memory, and one
+//! suite that every storage has to pass.
+//!
+//! The crate has no code of its own. Expected texts come from the rules, never from a run.
+#![tactic(auto)]
+
+#[cfg(test)]
+mod rows;
+#[cfg(test)]
+mod storages;

@@ -1,0 +1,52 @@
+//! The program `medusa`: the top call over real folders and streams.
+//!
+//! Until a config file names them, the bucket `/b/k` and the folder of nodes
+//! `/var/lib/medusa/nodes` lie under the folder that the program is started in.
+#![tactic(auto)]
+
+use med_commands::{medusa_main, tell_no_memory};
+use med_folder::{FolderNodes, FolderStore, RealSink};
+use std::alloc::AllocError;
+use std::env;
+use std::env::Env;
+use std::io::ErrorKind;
+use std::process::ExitCode;
+
+// What stands before each absolute path: the folder that the program is started in.
+const ROOT: &str = ".";
+
+// The words after the program's name. Where one is no UTF-8 there are none, which is refused as a
+// faulty command line.
+fn read_words(rt: &(impl Env + AllocGlobal)) -> Result<Vec<String>, AllocError> {
+    let mut words = Vec::new(rt.alloc());
+    match env::args(rt) {
+        Ok(args) => {
+            for word in args.skip(1) {
+                words.push(word)?;
+            }
+            Ok(words)
+        }
+        Err(error) if error.kind() == ErrorKind::OutOfMemory => Err(AllocError),
+        Err(_) => Ok(words),
+    }
+}
+
+fn main(rt: HostRuntime) -> ExitCode {
+    let alloc = rt.alloc();
+    let mut out = RealSink::new(rt.stdout());
+    let mut err = RealSink::new(rt.stderr());
+    let Ok(words) = read_words(&rt) else {
+        return ExitCode::from(tell_no_memory(&mut err));
+    };
+    let mut store = FolderStore::new(alloc, rt, ROOT);
+    let mut nodes = FolderNodes::new(rt, ROOT);
+    let status = medusa_main(
+        alloc,
+        words.as_slice(),
+        &mut store,
+        &mut nodes,
+        &mut out,
+        &mut err,
+    );
+    ExitCode::from(status)
+}
