@@ -13,10 +13,12 @@ lost : (b : Bool) (n : ℕ) → cond b (Some n) None ≡ None → b ≡ false
 lost true n e = cc e
 lost false n e = refl
 
-pub cut_some : (p : ℕ → Bool) (xs : List ℕ) (at : ℕ) → position p xs ≡ Some at → slice_split p xs ≡ take at xs ∷ slice_split p (drop (at + 1) xs)
+pub cut_some : (p : ℕ → Bool) (xs : List ℕ) (at : ℕ) → position p xs ≡ Some at
+    → slice_split p xs ≡ take at xs ∷ slice_split p (drop (at + 1) xs)
 cut_some p xs at e =
     let f = found (nat_lt (position_or_len p xs) (length xs)) (position_or_len p xs) at e in
-    slice_split_first p xs 0 (ltb-true _ _ f.0) ∙ ap (λ (k : ℕ). take k xs ∷ slice_split p (drop (k + 1) xs)) f.1
+    slice_split_first p xs 0 (ltb-true _ _ f.0)
+    ∙ ap (λ (k : ℕ). take k xs ∷ slice_split p (drop (k + 1) xs)) f.1
 
 past_end : (p : ℕ → Bool) (xs : List ℕ) → position p xs ≡ None → length xs ≤ position_or_len p xs
 past_end p xs e = elim (cases_lt (position_or_len p xs) (length xs)) [

@@ -14,10 +14,12 @@ same_number b = search rules
 -- a text with more behind it begins with the text
 pub is_under-append : (text rest : List ℕ) → is_under text (text ++ rest) ≡ true
 is_under-append [] rest = refl
-is_under-append (b ∷ text) rest = ap (λ v. v && is_under text (text ++ rest)) (same_number b) ∙ is_under-append text rest
+is_under-append (b ∷ text) rest = ap (λ v. v && is_under text (text ++ rest)) (same_number b)
+    ∙ is_under-append text rest
 
 -- where no object lies under the text, every path that begins with it is free
-pub free_under : (text : List ℕ) (c : Content) (path : List ℕ) → objects_under text c ≡ [] → is_under text path ≡ true → get c path ≡ None
+pub free_under : (text : List ℕ) (c : Content) (path : List ℕ) → objects_under text c ≡ []
+    → is_under text path ≡ true → get c path ≡ None
 free_under text c path none under =
     let part = part_of (is_under text) c in
     sym (get-part_of (is_under text) c path ∙ ap (λ b. cond b (get c path) None) under)

@@ -11,7 +11,8 @@ use Rattle.med_base.specs.Names.{component_fault}
 abbrev pub key_cmp : FileKey → FileKey → Ordering
 key_cmp =
     then_cmp (on (λ (k : FileKey). k.keyspace) (slice_cmp nat_cmp))
-    (then_cmp (on (λ (k : FileKey). k.table) (slice_cmp nat_cmp)) (on (λ (k : FileKey). k.file) (slice_cmp nat_cmp)))
+    (then_cmp (on (λ (k : FileKey). k.table) (slice_cmp nat_cmp))
+    (on (λ (k : FileKey). k.file) (slice_cmp nat_cmp)))
 
 -- two keys that no part tells apart
 abbrev pub key_eq : FileKey → FileKey → Bool

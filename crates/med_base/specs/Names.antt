@@ -15,7 +15,8 @@ is_forbidden b = (b == 47) || (b == 0) || (b == 10)
 abbrev pub first_fault : Bool → ℕ → List ℕ → Option ℕ
 first_fault is_refused limit text =
     if is_refused then Some 0
-    else option_or (position is_forbidden text) (if nat_lt limit (length text) then Some limit else None)
+    else option_or (position is_forbidden text)
+    (if nat_lt limit (length text) then Some limit else None)
 
 abbrev pub begins_with_dot : List ℕ → Bool
 begins_with_dot [] = false
@@ -24,7 +25,8 @@ begins_with_dot (b ∷ bs) = b == 46
 -- a part of a path: 1 to 255 bytes, and neither `.` nor `..`
 abbrev pub component_fault : List ℕ → Option ℕ
 component_fault text =
-    first_fault (bytes_eq text [] || bytes_eq text (codes ".") || bytes_eq text (codes "..")) 255 text
+    first_fault (bytes_eq text [] || bytes_eq text (codes ".") || bytes_eq text (codes "..")) 255
+    text
 
 -- a node: 1 to 200 bytes, no dot first, and not `index`
 abbrev pub fqdn_fault : List ℕ → Option ℕ
@@ -34,7 +36,8 @@ fqdn_fault text =
 -- a backup: 1 to 200 bytes, no dot first, and neither `data` nor `meta`
 abbrev pub backup_fault : List ℕ → Option ℕ
 backup_fault text =
-    first_fault (bytes_eq text [] || begins_with_dot text || bytes_eq text (codes "data") || bytes_eq text (codes "meta")) 200 text
+    first_fault (bytes_eq text [] || begins_with_dot text || bytes_eq text (codes "data") ||
+    bytes_eq text (codes "meta")) 200 text
 
 -- an error of a reader is right: a bad name has its fault at that place, and memory ran out only
 -- over a text that has none

@@ -76,7 +76,8 @@ pub(crate) fn begins_with_a_dot(text: &[u8]) -> bool
 
 /// Whether a text is empty, `.` or `..`.
 pub(crate) fn is_dots(text: &[u8]) -> bool
-    ensures { result ≡ (bytes_eq text.now [] || bytes_eq text.now (codes ".") || bytes_eq text.now (codes "..")) }
+    ensures { result ≡ (bytes_eq text.now [] || bytes_eq text.now (codes ".") || bytes_eq text.now
+        (codes "..")) }
 {
     text.is_empty() || text == b".".as_slice() || text == b"..".as_slice()
 }

@@ -15,11 +15,13 @@ use Rattle.med_commands.specs.declared.look.Refusal.{Refusal}
 use Rattle.med_commands.specs.declared.look.Refusal.TheVariants.{NoSnapshot, BadFileName, Taken, Fault}
 use Rattle.med_commands.proofs.Copied.{any_begun}
 
-pub ok_with : {T E : Type 0} (r : Result T E) (P Q : T → Type 0) → ((x : T) → P x → Q x) → IfOk r P → IfOk r Q
+pub ok_with : {T E : Type 0} (r : Result T E) (P Q : T → Type 0) → ((x : T) → P x → Q x) → IfOk r P
+    → IfOk r Q
 ok_with (Ok x) P Q f h = f x h
 ok_with (Err e) P Q f h = tt
 
-pub err_with : {T E : Type 0} (r : Result T E) (P Q : E → Type 0) → ((e : E) → P e → Q e) → IfErr r P → IfErr r Q
+pub err_with : {T E : Type 0} (r : Result T E) (P Q : E → Type 0) → ((e : E) → P e → Q e)
+    → IfErr r P → IfErr r Q
 err_with (Ok x) P Q f h = tt
 err_with (Err e) P Q f h = f e h
 
@@ -28,23 +30,28 @@ done_with (Ok x) P Q f h = f h
 done_with (Err e) P Q f h = tt
 
 -- no content changed
-pub same_content : (s0 s1 : State) (p0 p1 : ℕ → Content → Type 0) → Passes [] s0 s1 p0 p1 → s1.content ≡ s0.content
+pub same_content : (s0 s1 : State) (p0 p1 : ℕ → Content → Type 0) → Passes [] s0 s1 p0 p1
+    → s1.content ≡ s0.content
 same_content s0 s1 p0 p1 a = a.content ∙ after_all-nothing s0.content
 
 -- a count that rose from later on rose
-pub caused_from : (rb rm rn sb sm sn : ℕ) → rb ≤ rm → sb ≤ sm → (fault : CopyFault) → IsCaused rm rn sm sn fault → IsCaused rb rn sb sn fault
+pub caused_from : (rb rm rn sb sm sn : ℕ) → rb ≤ rm → sb ≤ sm → (fault : CopyFault)
+    → IsCaused rm rn sm sn fault → IsCaused rb rn sb sn fault
 caused_from rb rm rn sb sm sn r s Snap rose = omega arith
 caused_from rb rm rn sb sm sn r s Store rose = omega arith
 caused_from rb rm rn sb sm sn r s Memory rose = tt
 
-pub caused_of_from : (rb rm rn sb sm sn : ℕ) → rb ≤ rm → sb ≤ sm → (refusal : Refusal) → IsCausedOf rm rn sm sn refusal → IsCausedOf rb rn sb sn refusal
+pub caused_of_from : (rb rm rn sb sm sn : ℕ) → rb ≤ rm → sb ≤ sm → (refusal : Refusal)
+    → IsCausedOf rm rn sm sn refusal → IsCausedOf rb rn sb sn refusal
 caused_of_from rb rm rn sb sm sn r s NoSnapshot rose = tt
 caused_of_from rb rm rn sb sm sn r s (BadFileName at) rose = tt
 caused_of_from rb rm rn sb sm sn r s (Taken path) rose = tt
-caused_of_from rb rm rn sb sm sn r s (Fault fault) rose = caused_from rb rm rn sb sm sn r s fault rose
+caused_of_from rb rm rn sb sm sn r s (Fault fault) rose = caused_from rb rm rn sb sm sn r s fault
+    rose
 
 -- the faults of a snapshot that was closed count with those of the nodes
-pub caused_by_snap : (nb nm nn fresh snap sb sm sn : ℕ) → nb ≤ nm → fresh ≡ 0 → nn ≡ min (nm + snap) (2 ^ 64 - 1) → sb ≤ sm
+pub caused_by_snap : (nb nm nn fresh snap sb sm sn : ℕ) → nb ≤ nm → fresh ≡ 0
+    → nn ≡ min (nm + snap) (2 ^ 64 - 1) → sb ≤ sm
     → (refusal : Refusal) → IsCausedOf fresh snap sm sn refusal → IsCausedOf nb nn sb sn refusal
 caused_by_snap nb nm nn fresh snap sb sm sn later zero_is sum s NoSnapshot rose = tt
 caused_by_snap nb nm nn fresh snap sb sm sn later zero_is sum s (BadFileName at) rose = tt
@@ -54,8 +61,10 @@ caused_by_snap nb nm nn fresh snap sb sm sn later zero_is sum s (Fault Store) ro
 caused_by_snap nb nm nn fresh snap sb sm sn later zero_is sum s (Fault Memory) rose = tt
 
 module _ (before f n : List ℕ) (held : Option Snapshot) where
-  pub copied_after : (order : List FileKey) (schema : List ℕ) (s0 s1 s2 : State) (p0 p1 p2 : ℕ → Content → Type 0) (files : List FileRecord)
-      → Passes [] s0 s1 p0 p1 → IsCopied before f n held order schema s1 s2 p1 p2 files → IsCopied before f n held order schema s0 s2 p0 p2 files
+  pub copied_after : (order : List FileKey) (schema : List ℕ) (s0 s1 s2 : State)
+      (p0 p1 p2 : ℕ → Content → Type 0) (files : List FileRecord)
+      → Passes [] s0 s1 p0 p1 → IsCopied before f n held order schema s1 s2 p1 p2 files
+      → IsCopied before f n held order schema s0 s2 p0 p2 files
   copied_after order schema s0 s1 s2 p0 p1 p2 files first c = record {
     at = c.at;
     copies = c.copies;
@@ -64,39 +73,55 @@ module _ (before f n : List ℕ) (held : Option Snapshot) where
     bytes_are = c.bytes_are;
     files_are = c.files_are;
     manifest_is = c.manifest_is;
-    passes = passes_on [] (backup_puts before f n schema c.at c.copies c.end) s0 s1 s2 p0 p1 p2 first c.passes;
+    passes = passes_on [] (backup_puts before f n schema c.at c.copies c.end) s0 s1 s2 p0 p1 p2
+        first c.passes;
   }
 
   pub made_after : (s0 s1 s2 : State) (p0 p1 p2 : ℕ → Content → Type 0) (files : List FileRecord)
-      → Passes [] s0 s1 p0 p1 → IsMade before f n held s1 s2 p1 p2 files → IsMade before f n held s0 s2 p0 p2 files
+      → Passes [] s0 s1 p0 p1 → IsMade before f n held s1 s2 p1 p2 files
+      → IsMade before f n held s0 s2 p0 p2 files
   made_after s0 s1 s2 p0 p1 p2 files first m = record {
     order = m.order;
     schema = m.schema;
-    found = subst (λ (c : Option Content). IsFound before f n held c m.order m.schema) (same_content s0 s1 p0 p1 first) m.found;
+    found = subst (λ (c : Option Content). IsFound before f n held c m.order m.schema)
+        (same_content s0 s1 p0 p1 first) m.found;
     copied = copied_after m.order m.schema s0 s1 s2 p0 p1 p2 files first m.copied;
   }
 
-  pub cut_after : (s0 s1 s2 : State) (p0 p1 p2 : ℕ → Content → Type 0) → Passes [] s0 s1 p0 p1 → IsCutShort before f n held s1 s2 p1 p2 → IsCutShort before f n held s0 s2 p0 p2
+  pub cut_after : (s0 s1 s2 : State) (p0 p1 p2 : ℕ → Content → Type 0) → Passes [] s0 s1 p0 p1
+      → IsCutShort before f n held s1 s2 p1 p2 → IsCutShort before f n held s0 s2 p0 p2
   cut_after s0 s1 s2 p0 p1 p2 first c = record {
     done = c.done;
     begun = c.begun;
-    was_free = subst (λ (told : Option Content). (c.done ≡ []) ⊎ IsFree before f n told) (same_content s0 s1 p0 p1 first) c.was_free;
+    was_free = subst (λ (told : Option Content). (c.done ≡ []) ⊎ IsFree before f n told)
+        (same_content s0 s1 p0 p1 first) c.was_free;
     passes = passes_on [] c.done s0 s1 s2 p0 p1 p2 first c.passes;
   }
 
-  pub nothing_cut : (s0 s1 : State) (p0 p1 : ℕ → Content → Type 0) → Passes [] s0 s1 p0 p1 → IsCutShort before f n held s0 s1 p0 p1
-  nothing_cut s0 s1 p0 p1 passes = record { done = []; begun = any_begun before f n held; was_free = inl refl; passes = passes }
+  pub nothing_cut : (s0 s1 : State) (p0 p1 : ℕ → Content → Type 0) → Passes [] s0 s1 p0 p1
+      → IsCutShort before f n held s0 s1 p0 p1
+  nothing_cut s0 s1 p0 p1 passes = record {
+    done = [];
+    begun = any_begun before f n held;
+    was_free = inl refl;
+    passes = passes;
+  }
 
   -- nothing was put, whatever the refusal
-  pub nothing_left : (s0 s1 : State) (p0 p1 : ℕ → Content → Type 0) → Passes [] s0 s1 p0 p1 → (refusal : Refusal) → Leaves before f n held s0 s1 p0 p1 refusal
+  pub nothing_left : (s0 s1 : State) (p0 p1 : ℕ → Content → Type 0) → Passes [] s0 s1 p0 p1
+      → (refusal : Refusal) → Leaves before f n held s0 s1 p0 p1 refusal
   nothing_left s0 s1 p0 p1 passes NoSnapshot = passes
   nothing_left s0 s1 p0 p1 passes (BadFileName at) = passes
   nothing_left s0 s1 p0 p1 passes (Taken path) = passes
   nothing_left s0 s1 p0 p1 passes (Fault fault) = nothing_cut s0 s1 p0 p1 passes
 
-  pub leaves_after : (s0 s1 s2 : State) (p0 p1 p2 : ℕ → Content → Type 0) → Passes [] s0 s1 p0 p1 → (refusal : Refusal)
+  pub leaves_after : (s0 s1 s2 : State) (p0 p1 p2 : ℕ → Content → Type 0) → Passes [] s0 s1 p0 p1
+      → (refusal : Refusal)
       → Leaves before f n held s1 s2 p1 p2 refusal → Leaves before f n held s0 s2 p0 p2 refusal
-  leaves_after s0 s1 s2 p0 p1 p2 first NoSnapshot passes = passes_on [] [] s0 s1 s2 p0 p1 p2 first passes
-  leaves_after s0 s1 s2 p0 p1 p2 first (BadFileName at) passes = passes_on [] [] s0 s1 s2 p0 p1 p2 first passes
-  leaves_after s0 s1 s2 p0 p1 p2 first (Taken path) passes = passes_on [] [] s0 s1 s2 p0 p1 p2 first passes
+  leaves_after s0 s1 s2 p0 p1 p2 first NoSnapshot passes = passes_on [] [] s0 s1 s2 p0 p1 p2 first
+      passes
+  leaves_after s0 s1 s2 p0 p1 p2 first (BadFileName at) passes = passes_on [] [] s0 s1 s2 p0 p1 p2
+      first passes
+  leaves_after s0 s1 s2 p0 p1 p2 first (Taken path) passes = passes_on [] [] s0 s1 s2 p0 p1 p2 first
+      passes
   leaves_after s0 s1 s2 p0 p1 p2 first (Fault fault) cut = cut_after s0 s1 s2 p0 p1 p2 first cut

@@ -25,7 +25,8 @@ use Rattle.med_commands.specs.Taken.{IsFree}
 use Rattle.med_commands.proofs.Lists.{map-append, all_with, all_unmap, all_back}
 use Rattle.med_commands.proofs.Placed.{none_of, of_both}
 
-pub told_with : {A : Type 0} (held : Option A) (P Q : A → Type 0) → ((s : A) → P s → Q s) → IfSome held P → IfSome held Q
+pub told_with : {A : Type 0} (held : Option A) (P Q : A → Type 0) → ((s : A) → P s → Q s)
+    → IfSome held P → IfSome held Q
 told_with None P Q f h = tt
 told_with (Some s) P Q f h = f s h
 
@@ -42,15 +43,21 @@ all_found : (ks : List FileKey) → AllByRecursion (λ k. list_any (key_eq k) ks
 all_found [] = tt
 all_found (k ∷ ks) = (
   ap (λ b. b || list_any (key_eq k) ks) (same_key k),
-  all_with (λ j. list_any (key_eq j) ks ≡ true) (λ j. list_any (key_eq j) (k ∷ ks) ≡ true) (λ j e. or_true (key_eq j k) _ e) ks (all_found ks),
+  all_with (λ j. list_any (key_eq j) ks ≡ true) (λ j. list_any (key_eq j) (k ∷ ks) ≡ true)
+      (λ j e. or_true (key_eq j k) _ e) ks (all_found ks),
 )
 
-all_contained : {X : Type 0} (m : FinMap key_cmp X) → AllByRecursion (λ k. IsTrue (contains_key m k)) (keys m)
+all_contained : {X : Type 0} (m : FinMap key_cmp X)
+    → AllByRecursion (λ k. IsTrue (contains_key m k)) (keys m)
 all_contained m =
-    all_with (λ k. list_any (key_eq k) (keys m) ≡ true) (λ k. IsTrue (contains_key m k)) (λ k e. contains_key-keys m k ∙ e) (keys m) (all_found (keys m))
+    all_with (λ k. list_any (key_eq k) (keys m) ≡ true) (λ k. IsTrue (contains_key m k))
+    (λ k e. contains_key-keys m k ∙ e) (keys m) (all_found (keys m))
 
-pub all_have : (held : Option Snapshot) (order : List FileKey) → IfSome held (λ s. order ≡ keys s.files) → IfSome held (λ s. AllByRecursion (λ k. HasKey k s) order)
-all_have held order is = told_with held _ _ (λ s e. subst (AllByRecursion (λ k. HasKey k s)) (sym e) (all_contained s.files)) is
+pub all_have : (held : Option Snapshot) (order : List FileKey)
+    → IfSome held (λ s. order ≡ keys s.files)
+    → IfSome held (λ s. AllByRecursion (λ k. HasKey k s) order)
+all_have held order is = told_with held _ _
+    (λ s e. subst (AllByRecursion (λ k. HasKey k s)) (sym e) (all_contained s.files)) is
 
 -- ---- copies of the files that are left
 
@@ -70,12 +77,14 @@ there : {A : Type 0} (o : Option A) (d : A) → IsTrue (is_some o) → o ≡ Som
 there None d h = absurd (cc)
 there (Some x) d h = refl
 
-of_filled_by : (s : Snapshot) (ks : List FileKey) → AllByRecursion (λ k. HasKey k s) ks → AllByRecursion (λ (c : Copy). get s.files c.key ≡ Some c.bytes) (filled (Some s) ks)
+of_filled_by : (s : Snapshot) (ks : List FileKey) → AllByRecursion (λ k. HasKey k s) ks
+    → AllByRecursion (λ (c : Copy). get s.files c.key ≡ Some c.bytes) (filled (Some s) ks)
 unfolding bytes_in
 of_filled_by s [] all = tt
 of_filled_by s (k ∷ ks) all = (there (get s.files k) [] all.0, of_filled_by s ks all.1)
 
-of_filled : (held : Option Snapshot) (ks : List FileKey) → IfSome held (λ s. AllByRecursion (λ k. HasKey k s) ks) → AreOf held (filled held ks)
+of_filled : (held : Option Snapshot) (ks : List FileKey)
+    → IfSome held (λ s. AllByRecursion (λ k. HasKey k s) ks) → AreOf held (filled held ks)
 of_filled None ks all = tt
 of_filled (Some s) ks all = of_filled_by s ks all
 
@@ -96,25 +105,39 @@ any_begun before f n (Some s) = record {
   copies = filled (Some s) (keys s.files);
   end = 0;
   rest = backup_puts before f n s.schema 0 (filled (Some s) (keys s.files)) 0;
-  of_snapshot = record { keys_are = keys_filled (Some s) (keys s.files); bytes_are = of_filled_by s (keys s.files) (all_contained s.files); schema_is = refl };
+  of_snapshot = record {
+    keys_are = keys_filled (Some s) (keys s.files);
+    bytes_are = of_filled_by s (keys s.files) (all_contained s.files);
+    schema_is = refl;
+  };
   split = refl;
 }
 
-back_have : (held : Option Snapshot) (order ks js : List FileKey) → order ≡ ks ++ js → IfSome held (λ s. AllByRecursion (λ k. HasKey k s) order) → IfSome held (λ s. AllByRecursion (λ k. HasKey k s) js)
-back_have held order ks js cut all = told_with held _ _ (λ s h. all_back (λ k. HasKey k s) ks js (subst (AllByRecursion (λ k. HasKey k s)) cut h)) all
+back_have : (held : Option Snapshot) (order ks js : List FileKey) → order ≡ ks ++ js
+    → IfSome held (λ s. AllByRecursion (λ k. HasKey k s) order)
+    → IfSome held (λ s. AllByRecursion (λ k. HasKey k s) js)
+back_have held order ks js cut all = told_with held _ _
+    (λ s h. all_back (λ k. HasKey k s) ks js (subst (AllByRecursion (λ k. HasKey k s)) cut h)) all
 
 module _ (before f n : List ℕ) (held : Option Snapshot) where
   -- what was copied so far, with what is left, is a copy of the whole snapshot
-  whole_copies : (order : List FileKey) (schema : List ℕ) (copies : List Copy) (rest : List FileKey) → CanBeCopied held order schema
-      → order ≡ map key_of copies ++ rest → AreOf held copies → AreCopies held schema (copies ++ filled held rest)
+  whole_copies : (order : List FileKey) (schema : List ℕ) (copies : List Copy) (rest : List FileKey)
+      → CanBeCopied held order schema
+      → order ≡ map key_of copies ++ rest → AreOf held copies
+      → AreCopies held schema (copies ++ filled held rest)
   whole_copies order schema copies rest can cut of = record {
-    keys_are = told_with held _ _ (λ s e. map-append key_of copies (filled held rest) ∙ ap (λ l. map key_of copies ++ l) (keys_filled held rest) ∙ sym cut ∙ e) can.keys_are;
-    bytes_are = of_both held copies (filled held rest) of (of_filled held rest (back_have held order (map key_of copies) rest cut (all_have held order can.keys_are)));
+    keys_are = told_with held _ _
+        (λ s e. map-append key_of copies (filled held rest)
+        ∙ ap (λ l. map key_of copies ++ l) (keys_filled held rest) ∙ sym cut ∙ e) can.keys_are;
+    bytes_are = of_both held copies (filled held rest) of
+        (of_filled held rest
+        (back_have held order (map key_of copies) rest cut (all_have held order can.keys_are)));
     schema_is = can.schema_is;
   }
 
   -- nothing was put yet
-  pub none_begun : (order : List FileKey) (schema : List ℕ) → CanBeCopied held order schema → IsBegun before f n held []
+  pub none_begun : (order : List FileKey) (schema : List ℕ) → CanBeCopied held order schema
+      → IsBegun before f n held []
   none_begun order schema can = record {
     schema = schema;
     at = 0;
@@ -126,12 +149,15 @@ module _ (before f n : List ℕ) (held : Option Snapshot) where
   }
 
   -- the schema was put, and these files
-  pub some_begun : (order : List FileKey) (schema : List ℕ) (at : ℕ) (copies : List Copy) (rest : List FileKey) → CanBeCopied held order schema
+  pub some_begun : (order : List FileKey) (schema : List ℕ) (at : ℕ) (copies : List Copy)
+      (rest : List FileKey) → CanBeCopied held order schema
       → order ≡ map key_of copies ++ rest → AreOf held copies
-      → IsBegun before f n held (Stores (meta_path before f n Schema) schema at ∷ map (put_of before f n) copies)
+      → IsBegun before f n held
+      (Stores (meta_path before f n Schema) schema at ∷ map (put_of before f n) copies)
   some_begun order schema at copies rest can cut of =
       let left = filled held rest in
-      let last = Stores (meta_path before f n Manifest) (manifest_text (records_of before f n (copies ++ left))) 0 ∷ [] in
+      let last = Stores (meta_path before f n Manifest)
+      (manifest_text (records_of before f n (copies ++ left))) 0 ∷ [] in
       record {
         schema = schema;
         at = at;
@@ -140,12 +166,16 @@ module _ (before f n : List ℕ) (held : Option Snapshot) where
         rest = map (put_of before f n) left ++ last;
         of_snapshot = whole_copies order schema copies rest can cut of;
         split = ap (λ l. Stores (meta_path before f n Schema) schema at ∷ l)
-            (ap (λ l. l ++ last) (map-append (put_of before f n) copies left) ∙ append_assoc (map (put_of before f n) copies) (map (put_of before f n) left) last);
+            (ap (λ l. l ++ last) (map-append (put_of before f n) copies left)
+            ∙ append_assoc (map (put_of before f n) copies) (map (put_of before f n) left)
+            last);
       }
 
   -- all puts were made
-  pub all_begun : (order : List FileKey) (schema : List ℕ) (at : ℕ) (copies : List Copy) (end : ℕ) → CanBeCopied held order schema
-      → order ≡ map key_of copies → AreOf held copies → IsBegun before f n held (backup_puts before f n schema at copies end)
+  pub all_begun : (order : List FileKey) (schema : List ℕ) (at : ℕ) (copies : List Copy) (end : ℕ)
+      → CanBeCopied held order schema
+      → order ≡ map key_of copies → AreOf held copies
+      → IsBegun before f n held (backup_puts before f n schema at copies end)
   all_begun order schema at copies end can is of = record {
     schema = schema;
     at = at;
@@ -161,9 +191,17 @@ module _ (before f n : List ℕ) (held : Option Snapshot) where
   }
 
   -- the put of the schema broke off
-  pub schema_cut : (order : List FileKey) (schema : List ℕ) (old new : State) (past since : ℕ → Content → Type 0) → CanBeCopied held order schema → IsFree before f n old.content
-      → MayStore (meta_path before f n Schema) schema old new past since → IsCutShort before f n held old new past since
-  schema_cut order schema old new past since can free (inl moves) = record { done = []; begun = none_begun order schema can; was_free = inr free; passes = moves.passes }
+  pub schema_cut : (order : List FileKey) (schema : List ℕ) (old new : State)
+      (past since : ℕ → Content → Type 0) → CanBeCopied held order schema
+      → IsFree before f n old.content
+      → MayStore (meta_path before f n Schema) schema old new past since
+      → IsCutShort before f n held old new past since
+  schema_cut order schema old new past since can free (inl moves) = record {
+    done = [];
+    begun = none_begun order schema can;
+    was_free = inr free;
+    passes = moves.passes;
+  }
   schema_cut order schema old new past since can free (inr (at, moves)) = record {
     done = Stores (meta_path before f n Schema) schema at ∷ [];
     begun = some_begun order schema at [] order can refl (none_of held);
@@ -172,88 +210,130 @@ module _ (before f n : List ℕ) (held : Option Snapshot) where
   }
 
   -- the schema was put, and placing the files broke off
-  pub files_cut : (order : List FileKey) (schema : List ℕ) (at : ℕ) (s0 s1 s2 : State) (p0 p1 p2 : ℕ → Content → Type 0) → CanBeCopied held order schema → IsFree before f n s0.content
-      → Moves (Stores (meta_path before f n Schema) schema at ∷ []) s0 s1 p0 p1 → PlacesSome before f n held order s1 s2 p1 p2
+  pub files_cut : (order : List FileKey) (schema : List ℕ) (at : ℕ) (s0 s1 s2 : State)
+      (p0 p1 p2 : ℕ → Content → Type 0) → CanBeCopied held order schema
+      → IsFree before f n s0.content
+      → Moves (Stores (meta_path before f n Schema) schema at ∷ []) s0 s1 p0 p1
+      → PlacesSome before f n held order s1 s2 p1 p2
       → IsCutShort before f n held s0 s2 p0 p2
   files_cut order schema at s0 s1 s2 p0 p1 p2 can free first some = record {
-    done = Stores (meta_path before f n Schema) schema at ∷ map (put_of before f n) some.places.copies;
-    begun = some_begun order schema at some.places.copies some.rest can (some.split ∙ ap (λ l. l ++ some.rest) (sym some.places.keys_are)) some.places.bytes_are;
+    done = Stores (meta_path before f n Schema) schema at ∷ map (put_of before f n)
+        some.places.copies;
+    begun = some_begun order schema at some.places.copies some.rest can
+        (some.split ∙ ap (λ l. l ++ some.rest) (sym some.places.keys_are)) some.places.bytes_are;
     was_free = inr free;
-    passes = passes_on (Stores (meta_path before f n Schema) schema at ∷ []) (map (put_of before f n) some.places.copies) s0 s1 s2 p0 p1 p2 first.passes some.places.moves.passes;
+    passes = passes_on (Stores (meta_path before f n Schema) schema at ∷ [])
+        (map (put_of before f n) some.places.copies) s0 s1 s2 p0 p1 p2 first.passes
+        some.places.moves.passes;
   }
 
   -- all puts but the last one, and the last
-  all_passed : (schema : List ℕ) (at : ℕ) (copies : List Copy) (end : ℕ) (s0 s1 s2 s3 : State) (p0 p1 p2 p3 : ℕ → Content → Type 0)
-      → Moves (Stores (meta_path before f n Schema) schema at ∷ []) s0 s1 p0 p1 → Moves (map (put_of before f n) copies) s1 s2 p1 p2
-      → Moves (Stores (meta_path before f n Manifest) (manifest_text (records_of before f n copies)) end ∷ []) s2 s3 p2 p3
+  all_passed : (schema : List ℕ) (at : ℕ) (copies : List Copy) (end : ℕ) (s0 s1 s2 s3 : State)
+      (p0 p1 p2 p3 : ℕ → Content → Type 0)
+      → Moves (Stores (meta_path before f n Schema) schema at ∷ []) s0 s1 p0 p1
+      → Moves (map (put_of before f n) copies) s1 s2 p1 p2
+      → Moves (Stores (meta_path before f n Manifest) (manifest_text (records_of before f n copies))
+      end ∷ []) s2 s3 p2 p3
       → Passes (backup_puts before f n schema at copies end) s0 s3 p0 p3
   all_passed schema at copies end s0 s1 s2 s3 p0 p1 p2 p3 first files last =
-      passes_on (Stores (meta_path before f n Schema) schema at ∷ []) (map (put_of before f n) copies ++ Stores (meta_path before f n Manifest) (manifest_text (records_of before f n copies)) end ∷ [])
+      passes_on (Stores (meta_path before f n Schema) schema at ∷ [])
+      (map (put_of before f n) copies ++ Stores (meta_path before f n Manifest)
+      (manifest_text (records_of before f n copies)) end ∷ [])
       s0 s1 s3 p0 p1 p3 first.passes
-      (passes_on (map (put_of before f n) copies) (Stores (meta_path before f n Manifest) (manifest_text (records_of before f n copies)) end ∷ []) s1 s2 s3 p1 p2 p3 files.passes last.passes)
+      (passes_on (map (put_of before f n) copies)
+      (Stores (meta_path before f n Manifest) (manifest_text (records_of before f n copies)) end
+      ∷ []) s1 s2 s3 p1 p2 p3 files.passes last.passes)
 
   -- the put of the manifest broke off
-  pub manifest_cut : (order : List FileKey) (schema : List ℕ) (at : ℕ) (files : List FileRecord) (text : List ℕ) (s0 s1 s2 s3 : State) (p0 p1 p2 p3 : ℕ → Content → Type 0)
+  pub manifest_cut : (order : List FileKey) (schema : List ℕ) (at : ℕ) (files : List FileRecord)
+      (text : List ℕ) (s0 s1 s2 s3 : State) (p0 p1 p2 p3 : ℕ → Content → Type 0)
       → CanBeCopied held order schema → IsFree before f n s0.content → text ≡ manifest_text files
-      → Moves (Stores (meta_path before f n Schema) schema at ∷ []) s0 s1 p0 p1 → PlacesAll before f n held order s1 s2 p1 p2 files
-      → MayStore (meta_path before f n Manifest) text s2 s3 p2 p3 → IsCutShort before f n held s0 s3 p0 p3
-  manifest_cut order schema at files text s0 s1 s2 s3 p0 p1 p2 p3 can free text_is first all (inl moves) =
+      → Moves (Stores (meta_path before f n Schema) schema at ∷ []) s0 s1 p0 p1
+      → PlacesAll before f n held order s1 s2 p1 p2 files
+      → MayStore (meta_path before f n Manifest) text s2 s3 p2 p3
+      → IsCutShort before f n held s0 s3 p0 p3
+  manifest_cut order schema at files text s0 s1 s2 s3 p0 p1 p2 p3 can free text_is first all
+      (inl moves) =
       let copies = all.places.copies in
       let done = Stores (meta_path before f n Schema) schema at ∷ map (put_of before f n) copies in
-      let passed = passes_on (Stores (meta_path before f n Schema) schema at ∷ []) (map (put_of before f n) copies) s0 s1 s2 p0 p1 p2 first.passes all.places.moves.passes in
+      let passed = passes_on (Stores (meta_path before f n Schema) schema at ∷ [])
+      (map (put_of before f n) copies) s0 s1 s2 p0 p1 p2 first.passes all.places.moves.passes in
       record {
         done = done;
-        begun = some_begun order schema at copies [] can (sym all.places.keys_are ∙ sym (append-nil (map key_of copies))) all.places.bytes_are;
+        begun = some_begun order schema at copies [] can
+            (sym all.places.keys_are ∙ sym (append-nil (map key_of copies))) all.places.bytes_are;
         was_free = inr free;
-        passes = subst (λ (l : List Effect). Passes l s0 s3 p0 p3) (append-nil done) (passes_on done [] s0 s2 s3 p0 p2 p3 passed moves.passes);
+        passes = subst (λ (l : List Effect). Passes l s0 s3 p0 p3) (append-nil done)
+            (passes_on done [] s0 s2 s3 p0 p2 p3 passed moves.passes);
       }
-  manifest_cut order schema at files text s0 s1 s2 s3 p0 p1 p2 p3 can free text_is first all (inr (end, moves)) =
+  manifest_cut order schema at files text s0 s1 s2 s3 p0 p1 p2 p3 can free text_is first all
+      (inr (end, moves)) =
       let copies = all.places.copies in
       record {
         done = backup_puts before f n schema at copies end;
-        begun = all_begun order schema at copies end can (sym all.places.keys_are) all.places.bytes_are;
+        begun = all_begun order schema at copies end can (sym all.places.keys_are)
+            all.places.bytes_are;
         was_free = inr free;
         passes = all_passed schema at copies end s0 s1 s2 s3 p0 p1 p2 p3 first all.places.moves
-            (subst (λ (t : List ℕ). Moves (Stores (meta_path before f n Manifest) t end ∷ []) s2 s3 p2 p3) (text_is ∙ ap manifest_text all.files_are) moves);
+            (subst (λ (t : List ℕ). Moves (Stores (meta_path before f n Manifest) t end ∷ []) s2 s3
+            p2 p3) (text_is ∙ ap manifest_text all.files_are) moves);
       }
 
   -- all puts were made
-  pub copied_all : (order : List FileKey) (schema : List ℕ) (at : ℕ) (files : List FileRecord) (text : List ℕ) (end : ℕ) (s0 s1 s2 s3 : State) (p0 p1 p2 p3 : ℕ → Content → Type 0)
+  pub copied_all : (order : List FileKey) (schema : List ℕ) (at : ℕ) (files : List FileRecord)
+      (text : List ℕ) (end : ℕ) (s0 s1 s2 s3 : State) (p0 p1 p2 p3 : ℕ → Content → Type 0)
       → text ≡ manifest_text files → IsManifest before f n text files
-      → Moves (Stores (meta_path before f n Schema) schema at ∷ []) s0 s1 p0 p1 → PlacesAll before f n held order s1 s2 p1 p2 files
-      → Moves (Stores (meta_path before f n Manifest) text end ∷ []) s2 s3 p2 p3 → IsCopied before f n held order schema s0 s3 p0 p3 files
-  copied_all order schema at files text end s0 s1 s2 s3 p0 p1 p2 p3 text_is manifest first all moves = record {
-    at = at;
-    copies = all.places.copies;
-    end = end;
-    keys_are = all.places.keys_are;
-    bytes_are = all.places.bytes_are;
-    files_are = all.files_are;
-    manifest_is = subst (λ (t : List ℕ). IsManifest before f n t files) text_is manifest;
-    passes = all_passed schema at all.places.copies end s0 s1 s2 s3 p0 p1 p2 p3 first all.places.moves
-        (subst (λ (t : List ℕ). Moves (Stores (meta_path before f n Manifest) t end ∷ []) s2 s3 p2 p3) (text_is ∙ ap manifest_text all.files_are) moves);
-  }
+      → Moves (Stores (meta_path before f n Schema) schema at ∷ []) s0 s1 p0 p1
+      → PlacesAll before f n held order s1 s2 p1 p2 files
+      → Moves (Stores (meta_path before f n Manifest) text end ∷ []) s2 s3 p2 p3
+      → IsCopied before f n held order schema s0 s3 p0 p3 files
+  copied_all order schema at files text end s0 s1 s2 s3 p0 p1 p2 p3 text_is manifest first all
+      moves = record {
+        at = at;
+        copies = all.places.copies;
+        end = end;
+        keys_are = all.places.keys_are;
+        bytes_are = all.places.bytes_are;
+        files_are = all.files_are;
+        manifest_is = subst (λ (t : List ℕ). IsManifest before f n t files) text_is manifest;
+        passes = all_passed schema at all.places.copies end s0 s1 s2 s3 p0 p1 p2 p3 first
+            all.places.moves
+            (subst (λ (t : List ℕ). Moves (Stores (meta_path before f n Manifest) t end ∷ []) s2 s3 p2
+            p3) (text_is ∙ ap manifest_text all.files_are) moves);
+      }
 
   -- ---- what the manifest asks of the records
 
-  keys_recorded : (copies : List Copy) → map (λ (r : FileRecord). r.key) (records_of before f n copies) ≡ map key_of copies
+  keys_recorded : (copies : List Copy)
+      → map (λ (r : FileRecord). r.key) (records_of before f n copies) ≡ map key_of copies
   keys_recorded [] = refl
   keys_recorded (c ∷ copies) = ap (λ l. c.key ∷ l) (keys_recorded copies)
 
-  pub files_keys : (order : List FileKey) (s1 s2 : State) (p1 p2 : ℕ → Content → Type 0) (files : List FileRecord)
-      → PlacesAll before f n held order s1 s2 p1 p2 files → map (λ (r : FileRecord). r.key) files ≡ order
-  files_keys order s1 s2 p1 p2 files all = ap (map (λ (r : FileRecord). r.key)) all.files_are ∙ keys_recorded all.places.copies ∙ all.places.keys_are
+  pub files_keys : (order : List FileKey) (s1 s2 : State) (p1 p2 : ℕ → Content → Type 0)
+      (files : List FileRecord)
+      → PlacesAll before f n held order s1 s2 p1 p2 files
+      → map (λ (r : FileRecord). r.key) files ≡ order
+  files_keys order s1 s2 p1 p2 files all = ap (map (λ (r : FileRecord). r.key)) all.files_are
+      ∙ keys_recorded all.places.copies ∙ all.places.keys_are
 
-  own_paths : (copies : List Copy) → AllByRecursion (λ (r : FileRecord). IsPathOf before f n r.key r.path) (records_of before f n copies)
+  own_paths : (copies : List Copy)
+      → AllByRecursion (λ (r : FileRecord). IsPathOf before f n r.key r.path)
+      (records_of before f n copies)
   own_paths [] = tt
   own_paths (c ∷ copies) = (inr refl, own_paths copies)
 
-  pub files_paths : (order : List FileKey) (s1 s2 : State) (p1 p2 : ℕ → Content → Type 0) (files : List FileRecord)
-      → PlacesAll before f n held order s1 s2 p1 p2 files → AllByRecursion (λ (r : FileRecord). IsPathOf before f n r.key r.path) files
+  pub files_paths : (order : List FileKey) (s1 s2 : State) (p1 p2 : ℕ → Content → Type 0)
+      (files : List FileRecord)
+      → PlacesAll before f n held order s1 s2 p1 p2 files
+      → AllByRecursion (λ (r : FileRecord). IsPathOf before f n r.key r.path) files
   files_paths order s1 s2 p1 p2 files all =
-      subst (AllByRecursion (λ (r : FileRecord). IsPathOf before f n r.key r.path)) (sym all.files_are) (own_paths all.places.copies)
+      subst (AllByRecursion (λ (r : FileRecord). IsPathOf before f n r.key r.path))
+      (sym all.files_are) (own_paths all.places.copies)
 
-  pub files_names : (order : List FileKey) (schema : List ℕ) (s1 s2 : State) (p1 p2 : ℕ → Content → Type 0) (files : List FileRecord)
-      → CanBeCopied held order schema → PlacesAll before f n held order s1 s2 p1 p2 files → AllByRecursion (λ (r : FileRecord). IsKey r.key) files
+  pub files_names : (order : List FileKey) (schema : List ℕ) (s1 s2 : State)
+      (p1 p2 : ℕ → Content → Type 0) (files : List FileRecord)
+      → CanBeCopied held order schema → PlacesAll before f n held order s1 s2 p1 p2 files
+      → AllByRecursion (λ (r : FileRecord). IsKey r.key) files
   files_names order schema s1 s2 p1 p2 files can all =
-      all_unmap (λ (r : FileRecord). r.key) IsKey files (subst (AllByRecursion IsKey) (sym (files_keys order s1 s2 p1 p2 files all)) can.names)
+      all_unmap (λ (r : FileRecord). r.key) IsKey files
+      (subst (AllByRecursion IsKey) (sym (files_keys order s1 s2 p1 p2 files all)) can.names)

@@ -34,15 +34,18 @@ path_of (Stores path bytes second) = path
 abbrev pub NoneHas : List ℕ → List Effect → Type 0
 NoneHas p xs = AllByRecursion (λ (x : Effect). p ≡ path_of x → ⊥) xs
 
-pub stays : (p : List ℕ) (xs : List Effect) (c : Content) → NoneHas p xs → get (applied xs c) p ≡ get c p
+pub stays : (p : List ℕ) (xs : List Effect) (c : Content) → NoneHas p xs
+    → get (applied xs c) p ≡ get c p
 stays p [] c none = refl
 stays p (Stores path bytes second ∷ xs) c none =
     stays p xs (made (Stores path bytes second) c) none.1
     ∙ get-insert nat_list_cmp_total c path (record { bytes = bytes; second = second }) p
-    ∙ ap (λ b. cond b (Some (record { bytes = bytes; second = second })) (get c p)) (other p path none.0)
+    ∙ ap (λ b. cond b (Some (record { bytes = bytes; second = second })) (get c p))
+    (other p path none.0)
 
 pub put_stays : (p bytes : List ℕ) (second : ℕ) (xs : List Effect) (c : Content) → NoneHas p xs
-    → get (applied (Stores p bytes second ∷ xs) c) p ≡ Some (record { bytes = bytes; second = second })
+    → get (applied (Stores p bytes second ∷ xs) c) p ≡ Some
+    (record { bytes = bytes; second = second })
 put_stays p bytes second xs c none =
     stays p xs (made (Stores p bytes second) c) none
     ∙ get-insert nat_list_cmp_total c p (record { bytes = bytes; second = second }) p
@@ -50,6 +53,8 @@ put_stays p bytes second xs c none =
 
 -- the object of the last put
 pub last_put : (p bytes : List ℕ) (second : ℕ) (xs : List Effect) (c : Content)
-    → get (applied (xs ++ Stores p bytes second ∷ []) c) p ≡ Some (record { bytes = bytes; second = second })
+    → get (applied (xs ++ Stores p bytes second ∷ []) c) p ≡ Some
+    (record { bytes = bytes; second = second })
 last_put p bytes second xs c =
-    ap (λ (d : Content). get d p) (applied-append xs (Stores p bytes second ∷ []) c) ∙ put_stays p bytes second [] (applied xs c) tt
+    ap (λ (d : Content). get d p) (applied-append xs (Stores p bytes second ∷ []) c)
+    ∙ put_stays p bytes second [] (applied xs c) tt

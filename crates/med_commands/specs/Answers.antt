@@ -28,14 +28,16 @@ IsCaused read_before read_now store_before store_now Store = Rose store_before s
 IsCaused read_before read_now store_before store_now Memory = Unit {0}
 
 -- these are the keys of the snapshot in order, each a name of a file, and this is its schema
-pub record CanBeCopied (held : Option Snapshot) (order : List FileKey) (schema : List ℕ) : Type 0 where
-  pub rising : AreRising order
-  pub names : AllByRecursion IsKey order
-  pub keys_are : IfSome held (λ s. order ≡ keys s.files)
-  pub schema_is : IfSome held (λ s. schema ≡ s.schema)
+pub record CanBeCopied (held : Option Snapshot) (order : List FileKey) (schema : List ℕ) : Type 0
+  where
+    pub rising : AreRising order
+    pub names : AllByRecursion IsKey order
+    pub keys_are : IfSome held (λ s. order ≡ keys s.files)
+    pub schema_is : IfSome held (λ s. schema ≡ s.schema)
 
 -- the same, and the name of the backup is free
-pub record IsFound (before f n : List ℕ) (held : Option Snapshot) (told : Option Content) (order : List FileKey) (schema : List ℕ) : Type 0 where
+pub record IsFound (before f n : List ℕ) (held : Option Snapshot) (told : Option Content)
+    (order : List FileKey) (schema : List ℕ) : Type 0 where
   pub can : CanBeCopied held order schema
   pub walked : IfSome held CanBeWalked
   pub was_free : IsFree before f n told
@@ -56,7 +58,9 @@ IsCausedOf read_before read_now store_before store_now _ = Unit {0}
 
 -- Exactly the puts of a backup were made: of the schema, of the files with these keys, and of the
 -- manifest that names them.
-pub record IsCopied (before f n : List ℕ) (held : Option Snapshot) (order : List FileKey) (schema : List ℕ) (old new : State) (past since : ℕ → Content → Type 0) (files : List FileRecord) : Type 0 where
+pub record IsCopied (before f n : List ℕ) (held : Option Snapshot) (order : List FileKey)
+    (schema : List ℕ) (old new : State) (past since : ℕ → Content → Type 0)
+    (files : List FileRecord) : Type 0 where
   pub at : ℕ
   pub copies : List Copy
   pub end : ℕ
@@ -67,7 +71,8 @@ pub record IsCopied (before f n : List ℕ) (held : Option Snapshot) (order : Li
   pub passes : Passes (backup_puts before f n schema at copies end) old new past since
 
 -- the backup was made of all that was found
-pub record IsMade (before f n : List ℕ) (held : Option Snapshot) (old new : State) (past since : ℕ → Content → Type 0) (files : List FileRecord) : Type 0 where
+pub record IsMade (before f n : List ℕ) (held : Option Snapshot) (old new : State)
+    (past since : ℕ → Content → Type 0) (files : List FileRecord) : Type 0 where
   pub order : List FileKey
   pub schema : List ℕ
   pub found : IsFound before f n held old.content order schema
@@ -75,13 +80,16 @@ pub record IsMade (before f n : List ℕ) (held : Option Snapshot) (old new : St
 
 -- The first puts of a backup were made, or none; the last of them may have answered a failure.
 -- Where one was made the name was free.
-pub record IsCutShort (before f n : List ℕ) (held : Option Snapshot) (old new : State) (past since : ℕ → Content → Type 0) : Type 0 where
+pub record IsCutShort (before f n : List ℕ) (held : Option Snapshot) (old new : State)
+    (past since : ℕ → Content → Type 0) : Type 0 where
   pub done : List Effect
   pub begun : IsBegun before f n held done
   pub was_free : (done ≡ []) ⊎ IsFree before f n old.content
   pub passes : Passes done old new past since
 
 -- what stands after a refusal: all as before, or after a fault the first puts of a backup
-abbrev pub Leaves : (before f n : List ℕ) → Option Snapshot → (old new : State) → (past since : ℕ → Content → Type 0) → Refusal → Type 0
-Leaves before f n held old new past since (Fault fault) = IsCutShort before f n held old new past since
+abbrev pub Leaves : (before f n : List ℕ) → Option Snapshot → (old new : State)
+    → (past since : ℕ → Content → Type 0) → Refusal → Type 0
+Leaves before f n held old new past since (Fault fault) = IsCutShort before f n held old new past
+    since
 Leaves before f n held old new past since _ = Passes [] old new past since

@@ -25,7 +25,8 @@ pub record IsFileOf (s : Snapshot) (old new : Content) (r : FileRecord) : Type 0
   pub held : get old r.path ≡ None → HoldsBytes new r.path bytes
 
 -- the manifest of the backup has exactly the keys of the snapshot, each with its file's fingerprint
-pub record IsBackupOf (before f n : List ℕ) (s : Snapshot) (old new : Content) (files : List FileRecord) : Type 0 where
+pub record IsBackupOf (before f n : List ℕ) (s : Snapshot) (old new : Content)
+    (files : List FileRecord) : Type 0 where
   pub manifest : HasManifest before f n new files
   pub keys_are : map (λ (r : FileRecord). r.key) files ≡ keys s.files
   pub files_are : AllByRecursion (IsFileOf s old new) files
@@ -44,11 +45,13 @@ pub record AddsAt (paths : List (List ℕ)) (old new : Content) : Type 0 where
 -- the paths of a full backup of these files: schema, manifest, and those of the files
 abbrev pub paths_of : List ℕ → List ℕ → List ℕ → List FileRecord → List (List ℕ)
 paths_of before f n files =
-    meta_path before f n Schema ∷ meta_path before f n Manifest ∷ map (λ (r : FileRecord). r.path) files
+    meta_path before f n Schema ∷ meta_path before f n Manifest ∷ map (λ (r : FileRecord). r.path)
+    files
 
 -- The backup is finished and whole, its manifest is the canonical text of these files, its objects
 -- are new, and all others stand as before.
-pub record IsFinished (before f n : List ℕ) (old new : Content) (files : List FileRecord) : Type 0 where
-  pub whole : IsWhole before f n new
-  pub text : HoldsBytes new (meta_path before f n Manifest) (manifest_text files)
-  pub adds : AddsAt (paths_of before f n files) old new
+pub record IsFinished (before f n : List ℕ) (old new : Content) (files : List FileRecord) : Type 0
+  where
+    pub whole : IsWhole before f n new
+    pub text : HoldsBytes new (meta_path before f n Manifest) (manifest_text files)
+    pub adds : AddsAt (paths_of before f n files) old new

@@ -25,7 +25,8 @@ pub record Call : Type 0 where
 
 -- why no backup was made; after each refusal but a fault all is as before
 abbrev pub IsFaultOf : Call → (past since : ℕ → Content → Type 0) → Fault → Type 0
-IsFaultOf call past since Line = (asked_name call.words ≡ None) × Passes [] call.old call.new past since
+IsFaultOf call past since Line = (asked_name call.words ≡ None)
+    × Passes [] call.old call.new past since
 IsFaultOf call past since BadName =
     (name : List ℕ) × (asked_name call.words ≡ Some name) × IsTrue (is_some (backup_fault name))
     × Passes [] call.old call.new past since
@@ -54,7 +55,9 @@ IsUnprinted line old new before now _ = ⊥
 
 -- why the whole command ended with a fault: no backup was made and nothing printed, or a backup
 -- was made and not printed whole
-abbrev pub IsEndOf : Call → (past since : ℕ → Content → Type 0) → Option (List ℕ) → Option (List ℕ) → ℕ → ℕ → Fault → Type 0
+abbrev pub IsEndOf : Call → (past since : ℕ → Content → Type 0) → Option (List ℕ) → Option (List ℕ)
+    → ℕ → ℕ → Fault → Type 0
 IsEndOf call past since old new before now Write =
-    IsBackedUp call.words call.snap call.old call.new (λ line. WrotePart line old new) × Rose before now
+    IsBackedUp call.words call.snap call.old call.new (λ line. WrotePart line old new)
+    × Rose before now
 IsEndOf call past since old new before now fault = IsFaultOf call past since fault × (new ≡ old)

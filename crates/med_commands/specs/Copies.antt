@@ -40,11 +40,13 @@ abbrev pub backup_puts : List ℕ → List ℕ → List ℕ → List ℕ → ℕ
 backup_puts before f n schema at copies end =
     Stores (meta_path before f n Schema) schema at
     ∷ (map (put_of before f n) copies
-    ++ Stores (meta_path before f n Manifest) (manifest_text (records_of before f n copies)) end ∷ [])
+    ++ Stores (meta_path before f n Manifest) (manifest_text (records_of before f n copies)) end ∷
+    [])
 
 -- these are bytes of files of the snapshot, where it is told
 abbrev pub AreOf : Option Snapshot → List Copy → Type 0
-AreOf held copies = IfSome held (λ s. AllByRecursion (λ (c : Copy). get s.files c.key ≡ Some c.bytes) copies)
+AreOf held copies = IfSome held
+    (λ s. AllByRecursion (λ (c : Copy). get s.files c.key ≡ Some c.bytes) copies)
 
 -- the copies are of all files of the snapshot, in order of their keys, and this is its schema
 pub record AreCopies (held : Option Snapshot) (schema : List ℕ) (copies : List Copy) : Type 0 where

@@ -33,9 +33,11 @@ IfTold old new P = IfSome old (λ c. IfSome new (λ d. P c d))
 
 -- The backup of the name is finished and whole and is one of the snapshot, whose keys are names of
 -- files; the name was free, and nothing else changed.
-pub record IsDone (n : List ℕ) (held : Option Snapshot) (old new : State) (files : List FileRecord) : Type 0 where
+pub record IsDone (n : List ℕ) (held : Option Snapshot) (old new : State)
+    (files : List FileRecord) : Type 0 where
   pub finished : IfTold old.content new.content (λ c d. IsFinished [] node_name n c d files)
-  pub backup : IfTold old.content new.content (λ c d. IfSome held (λ s. IsBackupOf [] node_name n s c d files))
+  pub backup : IfTold old.content new.content
+      (λ c d. IfSome held (λ s. IsBackupOf [] node_name n s c d files))
   pub walked : IfSome held CanBeWalked
   pub was_free : IsFree [] node_name n old.content
 
@@ -44,7 +46,8 @@ abbrev pub snap_of : (List ℕ → List ℕ → List ℕ → Option Snapshot) �
 snap_of snaps n = snaps nodes_root node_name (tag_of n)
 
 -- The words ask for a backup, which is done as `IsDone` says, and its line is told.
-pub record IsBackedUp (words : List (List ℕ)) (snap : List ℕ → Option Snapshot) (old new : State) (says : List ℕ → Type 0) : Type 0 where
+pub record IsBackedUp (words : List (List ℕ)) (snap : List ℕ → Option Snapshot) (old new : State)
+    (says : List ℕ → Type 0) : Type 0 where
   pub name : List ℕ
   pub files : List FileRecord
   pub asks : Asks words name
@@ -52,7 +55,8 @@ pub record IsBackedUp (words : List (List ℕ)) (snap : List ℕ → Option Snap
   pub line : says (report_line name node_name files)
 
 -- an object lies under the folder of the asked name, and the first such path is told
-pub record IsTaken (words : List (List ℕ)) (snap : List ℕ → Option Snapshot) (old : State) (says : List ℕ → Type 0) : Type 0 where
+pub record IsTaken (words : List (List ℕ)) (snap : List ℕ → Option Snapshot) (old : State)
+    (says : List ℕ → Type 0) : Type 0 where
   pub name : List ℕ
   pub path : List ℕ
   pub asks : Asks words name
@@ -61,7 +65,8 @@ pub record IsTaken (words : List (List ℕ)) (snap : List ℕ → Option Snapsho
   pub line : says (taken_text name path)
 
 -- the snapshot has no key, or the key at the told place is the first with a bad part
-pub record HasBadSnapshot (words : List (List ℕ)) (snap : List ℕ → Option Snapshot) (says : List ℕ → Type 0) : Type 0 where
+pub record HasBadSnapshot (words : List (List ℕ)) (snap : List ℕ → Option Snapshot)
+    (says : List ℕ → Type 0) : Type 0 where
   pub name : List ℕ
   pub asks : Asks words name
   pub why :
@@ -70,9 +75,11 @@ pub record HasBadSnapshot (words : List (List ℕ)) (snap : List ℕ → Option 
 
 -- Every content that stood since the call began is the one before with the first puts of the
 -- asked backup, whose name was free, and what stands at the end is the last such content.
-pub record HasMoments (words : List (List ℕ)) (snap : List ℕ → Option Snapshot) (old new : State) (past since : ℕ → Content → Type 0) : Type 0 where
+pub record HasMoments (words : List (List ℕ)) (snap : List ℕ → Option Snapshot) (old new : State)
+    (past since : ℕ → Content → Type 0) : Type 0 where
   pub done : List Effect
   pub begun :
       (done ≡ [])
-      ⊎ ((n : List ℕ) × Asks words n × IsFree [] node_name n old.content × IsBegun [] node_name n (snap n) done)
+      ⊎ ((n : List ℕ) × Asks words n × IsFree [] node_name n old.content
+      × IsBegun [] node_name n (snap n) done)
   pub passes : Passes done old new past since

@@ -11,8 +11,10 @@ abbrev pub WrotePart : List ℕ → Option (List ℕ) → Option (List ℕ) → 
 WrotePart text old new = (n : ℕ) × (n < length text) × Wrote (take n text) old new
 
 -- the text at `Ok`, and a proper prefix of it at `Err`
-abbrev pub Prints : {T E : Type 0} → List ℕ → Option (List ℕ) → Option (List ℕ) → Result T E → Type 0
-Prints text old new result = MatchResult result (λ _. Wrote text old new) (λ _. WrotePart text old new)
+abbrev pub Prints : {T E : Type 0} → List ℕ → Option (List ℕ) → Option (List ℕ) → Result T E
+    → Type 0
+Prints text old new result = MatchResult result (λ _. Wrote text old new)
+    (λ _. WrotePart text old new)
 
 -- the line of a fault
 abbrev pub complaint : List ℕ → List ℕ

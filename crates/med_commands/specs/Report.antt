@@ -8,7 +8,8 @@ total_bytes files = min (sum_by (λ (r : FileRecord). r.fingerprint.size) files)
 
 abbrev pub report_head : List ℕ → List ℕ → ℕ → List ℕ
 report_head name node files =
-    codes "backup " ++ (name ++ (codes " of " ++ (node ++ (codes ": " ++ (decimal files ++ codes " files, ")))))
+    codes "backup " ++ (name ++
+    (codes " of " ++ (node ++ (codes ": " ++ (decimal files ++ codes " files, ")))))
 
 abbrev pub report_tail : ℕ → ℕ → List ℕ
 report_tail files bytes =

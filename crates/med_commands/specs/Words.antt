@@ -13,7 +13,8 @@ is_backup_form command option mode full =
 
 -- what stands in the place of the name, whether or not it is the name of a backup
 abbrev pub asked_name : List (List ℕ) → Option (List ℕ)
-asked_name (command ∷ option ∷ name ∷ mode ∷ full ∷ []) = if is_backup_form command option mode full then Some name else None
+asked_name (command ∷ option ∷ name ∷ mode ∷ full ∷ []) = if is_backup_form command option mode full
+    then Some name else None
 asked_name _ = None
 
 -- the words have another form, or their name is no name of a backup
@@ -25,7 +26,8 @@ is_refused (Some name) = is_some (backup_fault name)
 -- only over words that are right
 abbrev pub BlamesWords : Option (List ℕ) → WordsError → Type 0
 BlamesWords asked Line = asked ≡ None
-BlamesWords asked Name = (name : List ℕ) × (asked ≡ Some name) × IsTrue (is_some (backup_fault name))
+BlamesWords asked Name = (name : List ℕ) × (asked ≡ Some name)
+    × IsTrue (is_some (backup_fault name))
 BlamesWords asked Memory = is_refused asked ≡ false
 
 -- what is said of words that are refused

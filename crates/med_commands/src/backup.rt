@@ -27,12 +27,19 @@ fn backup_snapshot<S: Storage, P: Snap>(
     node: &Fqdn,
     name: &BackupName,
 ) -> Result<Vec<FileRecord>, Refusal>
-    ensures ok { IfOk result (λ files. IsMade layout.now node.now name.now (P.held snap.old) (S.state store.old) (S.state store.new) (S.stood_since store.old) (S.stood_since store.new) files.items) }
-    ensures err { IfErr result (BlamesLook layout.now node.now name.now (P.held snap.old) (S.state store.old).content) }
-    ensures leaves { IfErr result (Leaves layout.now node.now name.now (P.held snap.old) (S.state store.old) (S.state store.new) (S.stood_since store.old) (S.stood_since store.new)) }
+    ensures ok { IfOk result
+        (λ files. IsMade layout.now node.now name.now (P.held snap.old) (S.state store.old)
+        (S.state store.new) (S.stood_since store.old) (S.stood_since store.new) files.items) }
+    ensures err { IfErr result
+        (BlamesLook layout.now node.now name.now (P.held snap.old) (S.state store.old).content) }
+    ensures leaves { IfErr result
+        (Leaves layout.now node.now name.now (P.held snap.old) (S.state store.old)
+        (S.state store.new) (S.stood_since store.old) (S.stood_since store.new)) }
     ensures snap_later { P.faults snap.old ≤ P.faults snap.new }
     ensures store_later { (S.state store.old).faults ≤ (S.state store.new).faults }
-    ensures cause { IfErr result (IsCausedOf (P.faults snap.old) (P.faults snap.new) (S.state store.old).faults (S.state store.new).faults) }
+    ensures cause { IfErr result
+        (IsCausedOf (P.faults snap.old) (P.faults snap.new) (S.state store.old).faults
+        (S.state store.new).faults) }
 {
     let found = match look(alloc, store, snap, layout, node, name) {
         Ok(found) => found,
@@ -53,13 +60,22 @@ pub(crate) fn backup_node<S: Storage, N: Nodes>(
     node: &Fqdn,
     name: &BackupName,
 ) -> Result<Vec<FileRecord>, Refusal>
-    ensures ok { IfOk result (λ files. IsMade [] node.now name.now (N.snaps nodes.old nodes_root node.now (tag_of name.now)) (S.state store.old) (S.state store.new) (S.stood_since store.old) (S.stood_since store.new) files.items) }
-    ensures err { IfErr result (BlamesLook [] node.now name.now (N.snaps nodes.old nodes_root node.now (tag_of name.now)) (S.state store.old).content) }
-    ensures leaves { IfErr result (Leaves [] node.now name.now (N.snaps nodes.old nodes_root node.now (tag_of name.now)) (S.state store.old) (S.state store.new) (S.stood_since store.old) (S.stood_since store.new)) }
+    ensures ok { IfOk result
+        (λ files. IsMade [] node.now name.now
+        (N.snaps nodes.old nodes_root node.now (tag_of name.now)) (S.state store.old)
+        (S.state store.new) (S.stood_since store.old) (S.stood_since store.new) files.items) }
+    ensures err { IfErr result
+        (BlamesLook [] node.now name.now (N.snaps nodes.old nodes_root node.now (tag_of name.now))
+        (S.state store.old).content) }
+    ensures leaves { IfErr result
+        (Leaves [] node.now name.now (N.snaps nodes.old nodes_root node.now (tag_of name.now))
+        (S.state store.old) (S.state store.new) (S.stood_since store.old) (S.stood_since store.new)) }
     ensures same { N.snaps nodes.new ≡ N.snaps nodes.old }
     ensures nodes_later { N.faults nodes.old ≤ N.faults nodes.new }
     ensures store_later { (S.state store.old).faults ≤ (S.state store.new).faults }
-    ensures cause { IfErr result (IsCausedOf (N.faults nodes.old) (N.faults nodes.new) (S.state store.old).faults (S.state store.new).faults) }
+    ensures cause { IfErr result
+        (IsCausedOf (N.faults nodes.old) (N.faults nodes.new) (S.state store.old).faults
+        (S.state store.new).faults) }
 {
     let layout = Layout::plain(alloc);
     match store.open(alloc, BASE, BUCKET, &layout) {

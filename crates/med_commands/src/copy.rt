@@ -19,12 +19,20 @@ pub(crate) fn copy_found<S: Storage, P: Snap>(
     name: &BackupName,
     found: &Found,
 ) -> Result<Vec<FileRecord>, CopyFault>
-    requires { IsFound layout.now node.now name.now (P.held snap.old) (S.state store.old).content found.now.keys.items found.now.schema.items }
-    ensures ok { IfOk result (λ files. IsCopied layout.now node.now name.now (P.held snap.old) found.now.keys.items found.now.schema.items (S.state store.old) (S.state store.new) (S.stood_since store.old) (S.stood_since store.new) files.items) }
-    ensures err { OnErr result (IsCutShort layout.now node.now name.now (P.held snap.old) (S.state store.old) (S.state store.new) (S.stood_since store.old) (S.stood_since store.new)) }
+    requires { IsFound layout.now node.now name.now (P.held snap.old) (S.state store.old).content
+        found.now.keys.items found.now.schema.items }
+    ensures ok { IfOk result
+        (λ files. IsCopied layout.now node.now name.now (P.held snap.old) found.now.keys.items
+        found.now.schema.items (S.state store.old) (S.state store.new) (S.stood_since store.old)
+        (S.stood_since store.new) files.items) }
+    ensures err { OnErr result
+        (IsCutShort layout.now node.now name.now (P.held snap.old) (S.state store.old)
+        (S.state store.new) (S.stood_since store.old) (S.stood_since store.new)) }
     ensures snap_later { P.faults snap.old ≤ P.faults snap.new }
     ensures store_later { (S.state store.old).faults ≤ (S.state store.new).faults }
-    ensures cause { IfErr result (IsCaused (P.faults snap.old) (P.faults snap.new) (S.state store.old).faults (S.state store.new).faults) }
+    ensures cause { IfErr result
+        (IsCaused (P.faults snap.old) (P.faults snap.new) (S.state store.old).faults
+        (S.state store.new).faults) }
 {
     let schema = found.schema.as_slice();
     match put_meta(alloc, store, layout, node, name, MetaKind::Schema, schema) {

@@ -52,7 +52,8 @@ fn say<E: Sink>(err: &mut E, text: &[u8]) -> Result<(), SinkFailed>
 }
 
 fn say_taken<E: Sink>(err: &mut E, name: &str, path: &str) -> Result<(), SinkFailed>
-    ensures text { Prints (complaint (taken_text name.now path.now)) (E.taken err.old) (E.taken err.new) result }
+    ensures text { Prints (complaint (taken_text name.now path.now)) (E.taken err.old)
+        (E.taken err.new) result }
     ensures later { E.faults err.old ≤ E.faults err.new }
     ensures failed { OnErr result (Rose (E.faults err.old) (E.faults err.new)) }
 {
@@ -69,7 +70,8 @@ fn say_taken<E: Sink>(err: &mut E, name: &str, path: &str) -> Result<(), SinkFai
 }
 
 fn say_no_snapshot<E: Sink>(err: &mut E, name: &str) -> Result<(), SinkFailed>
-    ensures text { Prints (complaint (no_snapshot_text name.now)) (E.taken err.old) (E.taken err.new) result }
+    ensures text { Prints (complaint (no_snapshot_text name.now)) (E.taken err.old)
+        (E.taken err.new) result }
     ensures later { E.faults err.old ≤ E.faults err.new }
     ensures failed { OnErr result (Rose (E.faults err.old) (E.faults err.new)) }
 {
@@ -101,7 +103,8 @@ fn say_bad_file<E: Sink>(err: &mut E, at: usize) -> Result<(), SinkFailed>
 }
 
 fn say_fault<E: Sink>(err: &mut E, fault: &Fault) -> Result<(), SinkFailed>
-    ensures text { Prints (complaint (fault_text fault.now)) (E.taken err.old) (E.taken err.new) result }
+    ensures text { Prints (complaint (fault_text fault.now)) (E.taken err.old) (E.taken err.new)
+        result }
     ensures later { E.faults err.old ≤ E.faults err.new }
     ensures failed { OnErr result (Rose (E.faults err.old) (E.faults err.new)) }
 {
@@ -121,7 +124,8 @@ fn say_fault<E: Sink>(err: &mut E, fault: &Fault) -> Result<(), SinkFailed>
 /// Tells the fault on `err` in one line, and answers its status. A failed write leaves the status.
 pub(crate) fn tell<E: Sink>(err: &mut E, fault: &Fault) -> Status
     ensures status { result ≡ status_of fault.now }
-    ensures text { Complains (fault_text fault.now) (E.taken err.old) (E.taken err.new) (E.faults err.old) (E.faults err.new) }
+    ensures text { Complains (fault_text fault.now) (E.taken err.old) (E.taken err.new)
+        (E.faults err.old) (E.faults err.new) }
     ensures later { E.faults err.old ≤ E.faults err.new }
 {
     match say_fault(err, fault) {

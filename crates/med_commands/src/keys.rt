@@ -27,7 +27,9 @@ pub enum WalkError {
 
 // The component of the text, or `None` where it is none.
 fn component(alloc: Global, text: &str) -> Result<Option<Component>, NoMemory>
-    ensures { IfOk result (λ name. MatchOption name (component_fault text.now ≡ None → ⊥) (λ c. (c ≡ text.now) × (component_fault text.now ≡ None))) }
+    ensures { IfOk result
+        (λ name. MatchOption name (component_fault text.now ≡ None → ⊥)
+        (λ c. (c ≡ text.now) × (component_fault text.now ≡ None))) }
 {
     match Component::read(alloc, text) {
         Ok(name) => Ok(Some(name)),
@@ -38,7 +40,9 @@ fn component(alloc: Global, text: &str) -> Result<Option<Component>, NoMemory>
 
 // The key of three components, or `None` where a part is none.
 fn file_key(alloc: Global, raw: &RawKey) -> Result<Option<FileKey>, NoMemory>
-    ensures { IfOk result (λ key. MatchOption key (IsKey (raw_name raw.now) → ⊥) (λ k. (k ≡ raw_name raw.now) × IsKey (raw_name raw.now))) }
+    ensures { IfOk result
+        (λ key. MatchOption key (IsKey (raw_name raw.now) → ⊥)
+        (λ k. (k ≡ raw_name raw.now) × IsKey (raw_name raw.now))) }
 {
     let Some(keyspace) = component(alloc, raw.keyspace.as_str())? else {
         return Ok(None);
@@ -58,7 +62,8 @@ fn file_key(alloc: Global, raw: &RawKey) -> Result<Option<FileKey>, NoMemory>
 
 // The keys in order, each once.
 fn ordered(alloc: Global, raws: &[RawKey]) -> Result<BTreeMap<FileKey, ()>, WalkError>
-    ensures keys { IfOk result (λ keys. keys.entries ≡ finite.entries (added finite.empty (map raw_name raws.now))) }
+    ensures keys { IfOk result
+        (λ keys. keys.entries ≡ finite.entries (added finite.empty (map raw_name raws.now))) }
     ensures names { OnOk result (AllByRecursion IsKey (map raw_name raws.now)) }
     ensures err { IfErr result (BlamesKeys (map raw_name raws.now)) }
 {
@@ -88,12 +93,14 @@ fn key_list(alloc: Global, keys: BTreeMap<FileKey, ()>) -> Result<Vec<FileKey>, 
 pub fn walk<P: Snap>(alloc: Global, snap: &mut P) -> Result<Vec<FileKey>, WalkError>
     ensures rising { IfOk result (λ keys. AreRising keys.items) }
     ensures names { IfOk result (λ keys. AllByRecursion IsKey keys.items) }
-    ensures keys { IfOk result (λ keys. IfSome (P.held snap.old) (λ s. keys.items ≡ finite.keys s.files)) }
+    ensures keys { IfOk result
+        (λ keys. IfSome (P.held snap.old) (λ s. keys.items ≡ finite.keys s.files)) }
     ensures walked { OnOk result (IfSome (P.held snap.old) CanBeWalked) }
     ensures err { IfErr result (λ error. IfSome (P.held snap.old) (λ s. BlamesWalk s error)) }
     ensures same { P.held snap.new ≡ P.held snap.old }
     ensures later { P.faults snap.old ≤ P.faults snap.new }
-    ensures snap_fault { IsErrOf result WalkError.Snap → Rose (P.faults snap.old) (P.faults snap.new) }
+    ensures snap_fault { IsErrOf result WalkError.Snap
+        → Rose (P.faults snap.old) (P.faults snap.new) }
 {
     let raws = match snap.keys(alloc) {
         Ok(raws) => raws,

@@ -45,8 +45,10 @@ fn first_under<S: Storage>(
     node: &Fqdn,
     name: &BackupName,
 ) -> Result<Option<ObjPath>, Denied>
-    ensures first { IfOk result (IsFirstUnder (backup_folder layout.now node.now name.now) (S.state store.old).content) }
-    ensures looks { Looks (S.state store.old) (S.state store.new) (S.stood_since store.old) (S.stood_since store.new) }
+    ensures first { IfOk result
+        (IsFirstUnder (backup_folder layout.now node.now name.now) (S.state store.old).content) }
+    ensures looks { Looks (S.state store.old) (S.state store.new) (S.stood_since store.old)
+        (S.stood_since store.new) }
     ensures cause { HasCause (S.state store.old).faults (S.state store.new).faults result }
 {
     let folder = match layout.backup_folder(alloc, node, name) {
@@ -74,13 +76,19 @@ pub(crate) fn look<S: Storage, P: Snap>(
     node: &Fqdn,
     name: &BackupName,
 ) -> Result<Found, Refusal>
-    ensures ok { IfOk result (λ found. IsFound layout.now node.now name.now (P.held snap.old) (S.state store.old).content found.keys.items found.schema.items) }
-    ensures err { IfErr result (BlamesLook layout.now node.now name.now (P.held snap.old) (S.state store.old).content) }
-    ensures looks { Looks (S.state store.old) (S.state store.new) (S.stood_since store.old) (S.stood_since store.new) }
+    ensures ok { IfOk result
+        (λ found. IsFound layout.now node.now name.now (P.held snap.old) (S.state store.old).content
+        found.keys.items found.schema.items) }
+    ensures err { IfErr result
+        (BlamesLook layout.now node.now name.now (P.held snap.old) (S.state store.old).content) }
+    ensures looks { Looks (S.state store.old) (S.state store.new) (S.stood_since store.old)
+        (S.stood_since store.new) }
     ensures same { P.held snap.new ≡ P.held snap.old }
     ensures snap_later { P.faults snap.old ≤ P.faults snap.new }
     ensures store_later { (S.state store.old).faults ≤ (S.state store.new).faults }
-    ensures cause { IfErr result (IsCausedOf (P.faults snap.old) (P.faults snap.new) (S.state store.old).faults (S.state store.new).faults) }
+    ensures cause { IfErr result
+        (IsCausedOf (P.faults snap.old) (P.faults snap.new) (S.state store.old).faults
+        (S.state store.new).faults) }
 {
     let keys = match walk(alloc, snap) {
         Ok(keys) => keys,

@@ -59,8 +59,17 @@ fn back_up<S: Storage, N: Nodes>(
     ensures ok { IfOk result (λ made. Asks (map string_bytes words.now) made.name
         × (made.node ≡ node_name)
         × IsMade [] node_name made.name (snap_of (N.snaps nodes.old) made.name) (S.state store.old) (S.state store.new) (S.stood_since store.old) (S.stood_since store.new) made.files.items) }
-    ensures err { IfErr result (IsFaultOf (record { words = map string_bytes words.now; snap = snap_of (N.snaps nodes.old); old = S.state store.old; new = S.state store.new; nodes_before = N.faults nodes.old; nodes_now = N.faults nodes.new }) (S.stood_since store.old) (S.stood_since store.new)) }
-    ensures moments { HasMoments (map string_bytes words.now) (snap_of (N.snaps nodes.old)) (S.state store.old) (S.state store.new) (S.stood_since store.old) (S.stood_since store.new) }
+    ensures err { IfErr result
+        (IsFaultOf (record {
+          words = map string_bytes words.now;
+          snap = snap_of (N.snaps nodes.old);
+          old = S.state store.old;
+          new = S.state store.new;
+          nodes_before = N.faults nodes.old;
+          nodes_now = N.faults nodes.new;
+        }) (S.stood_since store.old) (S.stood_since store.new)) }
+    ensures moments { HasMoments (map string_bytes words.now) (snap_of (N.snaps nodes.old))
+        (S.state store.old) (S.state store.new) (S.stood_since store.old) (S.stood_since store.new) }
     ensures same { N.snaps nodes.new ≡ N.snaps nodes.old }
     ensures nodes_later { N.faults nodes.old ≤ N.faults nodes.new }
     ensures store_later { (S.state store.old).faults ≤ (S.state store.new).faults }
@@ -84,8 +93,12 @@ fn back_up<S: Storage, N: Nodes>(
 
 // Prints the line of a backup that was made.
 fn print_line<O: Sink>(alloc: Global, made: &Made, out: &mut O) -> Result<(), Fault>
-    ensures ok { OnOk result (Wrote (report_line made.now.name made.now.node made.now.files.items) (O.taken out.old) (O.taken out.new)) }
-    ensures err { IfErr result (IsUnprinted (report_line made.now.name made.now.node made.now.files.items) (O.taken out.old) (O.taken out.new) (O.faults out.old) (O.faults out.new)) }
+    ensures ok { OnOk result
+        (Wrote (report_line made.now.name made.now.node made.now.files.items) (O.taken out.old)
+        (O.taken out.new)) }
+    ensures err { IfErr result
+        (IsUnprinted (report_line made.now.name made.now.node made.now.files.items)
+        (O.taken out.old) (O.taken out.new) (O.faults out.old) (O.faults out.new)) }
     ensures later { O.faults out.old ≤ O.faults out.new }
 {
     let line = match line_of(alloc, &made.name, &made.node, made.files.as_slice()) {
@@ -106,9 +119,21 @@ fn run<S: Storage, N: Nodes, O: Sink>(
     nodes: &mut N,
     out: &mut O,
 ) -> Result<(), Fault>
-    ensures ok { OnOk result (IsBackedUp (map string_bytes words.now) (snap_of (N.snaps nodes.old)) (S.state store.old) (S.state store.new) (λ line. Wrote line (O.taken out.old) (O.taken out.new))) }
-    ensures err { IfErr result (IsEndOf (record { words = map string_bytes words.now; snap = snap_of (N.snaps nodes.old); old = S.state store.old; new = S.state store.new; nodes_before = N.faults nodes.old; nodes_now = N.faults nodes.new }) (S.stood_since store.old) (S.stood_since store.new) (O.taken out.old) (O.taken out.new) (O.faults out.old) (O.faults out.new)) }
-    ensures moments { HasMoments (map string_bytes words.now) (snap_of (N.snaps nodes.old)) (S.state store.old) (S.state store.new) (S.stood_since store.old) (S.stood_since store.new) }
+    ensures ok { OnOk result
+        (IsBackedUp (map string_bytes words.now) (snap_of (N.snaps nodes.old)) (S.state store.old)
+        (S.state store.new) (λ line. Wrote line (O.taken out.old) (O.taken out.new))) }
+    ensures err { IfErr result
+        (IsEndOf (record {
+          words = map string_bytes words.now;
+          snap = snap_of (N.snaps nodes.old);
+          old = S.state store.old;
+          new = S.state store.new;
+          nodes_before = N.faults nodes.old;
+          nodes_now = N.faults nodes.new;
+        }) (S.stood_since store.old) (S.stood_since store.new)
+        (O.taken out.old) (O.taken out.new) (O.faults out.old) (O.faults out.new)) }
+    ensures moments { HasMoments (map string_bytes words.now) (snap_of (N.snaps nodes.old))
+        (S.state store.old) (S.state store.new) (S.stood_since store.old) (S.stood_since store.new) }
     ensures same { N.snaps nodes.new ≡ N.snaps nodes.old }
     ensures nodes_later { N.faults nodes.old ≤ N.faults nodes.new }
     ensures store_later { (S.state store.old).faults ≤ (S.state store.new).faults }
@@ -138,37 +163,61 @@ pub fn medusa_main<S: Storage, N: Nodes, O: Sink, E: Sink>(
     ensures status { IsStatus result }
 
     // 0: the backup is finished and whole, and its line was written.
-    ensures done { result ≡ code Done → IsBackedUp (map string_bytes words.now) (snap_of (N.snaps nodes.old)) (S.state store.old) (S.state store.new) (λ line. Wrote line (O.taken out.old) (O.taken out.new)) }
+    ensures done { result ≡ code Done
+        → IsBackedUp (map string_bytes words.now) (snap_of (N.snaps nodes.old)) (S.state store.old)
+        (S.state store.new) (λ line. Wrote line (O.taken out.old) (O.taken out.new)) }
     ensures quiet { result ≡ code Done → E.taken err.new ≡ E.taken err.old }
 
     // 2: exactly where the words have another form, or their name is none.
-    ensures usage { (result ≡ code Usage) ↔ IsTrue (is_refused (asked_name (map string_bytes words.now))) }
-    ensures usage_line { result ≡ code Usage → Complains (usage_text (asked_name (map string_bytes words.now))) (E.taken err.old) (E.taken err.new) (E.faults err.old) (E.faults err.new) }
+    ensures usage { (result ≡ code Usage) ↔ IsTrue
+        (is_refused (asked_name (map string_bytes words.now))) }
+    ensures usage_line { result ≡ code Usage
+        → Complains (usage_text (asked_name (map string_bytes words.now))) (E.taken err.old)
+        (E.taken err.new) (E.faults err.old) (E.faults err.new) }
 
     // 5: an object lies under the folder of the name.
-    ensures taken { result ≡ code Taken → IsTaken (map string_bytes words.now) (snap_of (N.snaps nodes.old)) (S.state store.old) (λ text. Complains text (E.taken err.old) (E.taken err.new) (E.faults err.old) (E.faults err.new)) }
+    ensures taken { result ≡ code Taken
+        → IsTaken (map string_bytes words.now) (snap_of (N.snaps nodes.old)) (S.state store.old)
+        (λ text. Complains text (E.taken err.old) (E.taken err.new) (E.faults err.old)
+        (E.faults err.new)) }
 
     // 7, 8: the count of the nodes or of the storage rose.
     ensures read_fault { result ≡ code ReadFault → Rose (N.faults nodes.old) (N.faults nodes.new) }
-    ensures read_line { result ≡ code ReadFault → Complains (codes "read fault") (E.taken err.old) (E.taken err.new) (E.faults err.old) (E.faults err.new) }
+    ensures read_line { result ≡ code ReadFault
+        → Complains (codes "read fault") (E.taken err.old) (E.taken err.new) (E.faults err.old)
+        (E.faults err.new) }
     ensures storage_fault { result ≡ code StorageFault → Rose (S.state store.old).faults (S.state store.new).faults }
-    ensures storage_line { result ≡ code StorageFault → Complains (codes "storage fault") (E.taken err.old) (E.taken err.new) (E.faults err.old) (E.faults err.new) }
+    ensures storage_line { result ≡ code StorageFault → Complains (codes "storage fault") (E.taken err.old)
+        (E.taken err.new) (E.faults err.old) (E.faults err.new) }
 
     // 10: the count of `out` rose; all is as at 0, but that a proper prefix of the line was written.
     ensures write_fault { result ≡ code WriteFault → Rose (O.faults out.old) (O.faults out.new) }
-    ensures write_part { result ≡ code WriteFault → IsBackedUp (map string_bytes words.now) (snap_of (N.snaps nodes.old)) (S.state store.old) (S.state store.new) (λ line. WrotePart line (O.taken out.old) (O.taken out.new)) }
-    ensures write_line { result ≡ code WriteFault → Complains (codes "write fault") (E.taken err.old) (E.taken err.new) (E.faults err.old) (E.faults err.new) }
+    ensures write_part { result ≡ code WriteFault
+        → IsBackedUp (map string_bytes words.now) (snap_of (N.snaps nodes.old)) (S.state store.old)
+        (S.state store.new) (λ line. WrotePart line (O.taken out.old) (O.taken out.new)) }
+    ensures write_line { result ≡ code WriteFault
+        → Complains (codes "write fault") (E.taken err.old) (E.taken err.new) (E.faults err.old)
+        (E.faults err.new) }
 
     // 11: the snapshot has no key, or one that is no name of a file.
-    ensures bad_snapshot { result ≡ code BadSnapshot → HasBadSnapshot (map string_bytes words.now) (snap_of (N.snaps nodes.old)) (λ text. Complains text (E.taken err.old) (E.taken err.new) (E.faults err.old) (E.faults err.new)) }
+    ensures bad_snapshot { result ≡ code BadSnapshot → HasBadSnapshot (map string_bytes words.now)
+        (snap_of (N.snaps nodes.old))
+        (λ text. Complains text (E.taken err.old) (E.taken err.new) (E.faults err.old)
+        (E.faults err.new)) }
 
     // 20: want of memory, which is free.
-    ensures memory_line { result ≡ code Memory → Complains (codes "out of memory") (E.taken err.old) (E.taken err.new) (E.faults err.old) (E.faults err.new) }
+    ensures memory_line { result ≡ code Memory
+        → Complains (codes "out of memory") (E.taken err.old) (E.taken err.new) (E.faults err.old)
+        (E.faults err.new) }
 
     // What a refusal leaves, and what stood meanwhile.
-    ensures silent { result ≢ code Done → result ≢ code WriteFault → O.taken out.new ≡ O.taken out.old }
-    ensures untouched { IsRefusal result → Passes [] (S.state store.old) (S.state store.new) (S.stood_since store.old) (S.stood_since store.new) }
-    ensures moments { HasMoments (map string_bytes words.now) (snap_of (N.snaps nodes.old)) (S.state store.old) (S.state store.new) (S.stood_since store.old) (S.stood_since store.new) }
+    ensures silent { result ≢ code Done → result ≢ code WriteFault
+        → O.taken out.new ≡ O.taken out.old }
+    ensures untouched { IsRefusal result
+        → Passes [] (S.state store.old) (S.state store.new) (S.stood_since store.old)
+        (S.stood_since store.new) }
+    ensures moments { HasMoments (map string_bytes words.now) (snap_of (N.snaps nodes.old))
+        (S.state store.old) (S.state store.new) (S.stood_since store.old) (S.stood_since store.new) }
     ensures nodes_same { N.snaps nodes.new ≡ N.snaps nodes.old }
 
     // No count of faults falls.
@@ -186,7 +235,8 @@ pub fn medusa_main<S: Storage, N: Nodes, O: Sink, E: Sink>(
 /// Tells on `err` that there was no memory for the words, and answers the status for it.
 pub fn tell_no_memory<E: Sink>(err: &mut E) -> u8
     ensures status { result ≡ code Memory }
-    ensures line { Complains (codes "out of memory") (E.taken err.old) (E.taken err.new) (E.faults err.old) (E.faults err.new) }
+    ensures line { Complains (codes "out of memory") (E.taken err.old) (E.taken err.new)
+        (E.faults err.old) (E.faults err.new) }
     ensures later { E.faults err.old ≤ E.faults err.new }
 {
     tell(err, &Fault::Memory).code()

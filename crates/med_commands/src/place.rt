@@ -32,8 +32,12 @@ pub(crate) fn put_meta<S: Storage>(
     kind: MetaKind,
     bytes: &[u8],
 ) -> Result<(), Denied>
-    ensures ok { OnOk result (StoresOne (meta_path layout.now node.now name.now kind) bytes.now (S.state store.old) (S.state store.new) (S.stood_since store.old) (S.stood_since store.new)) }
-    ensures err { OnErr result (MayStore (meta_path layout.now node.now name.now kind) bytes.now (S.state store.old) (S.state store.new) (S.stood_since store.old) (S.stood_since store.new)) }
+    ensures ok { OnOk result
+        (StoresOne (meta_path layout.now node.now name.now kind) bytes.now (S.state store.old)
+        (S.state store.new) (S.stood_since store.old) (S.stood_since store.new)) }
+    ensures err { OnErr result
+        (MayStore (meta_path layout.now node.now name.now kind) bytes.now (S.state store.old)
+        (S.state store.new) (S.stood_since store.old) (S.stood_since store.new)) }
     ensures cause { HasCause (S.state store.old).faults (S.state store.new).faults result }
 {
     let path = match layout.meta(alloc, node, name, kind) {
@@ -58,12 +62,18 @@ fn place<S: Storage, P: Snap>(
     key: &FileKey,
 ) -> Result<FileRecord, CopyFault>
     requires { IfSome (P.held snap.old) (HasKey key.now) }
-    ensures ok { IfOk result (PlacesOne layout.now node.now name.now (P.held snap.old) key.now (S.state store.old) (S.state store.new) (S.stood_since store.old) (S.stood_since store.new)) }
-    ensures err { OnErr result (PlacesSome layout.now node.now name.now (P.held snap.old) (key.now ∷ []) (S.state store.old) (S.state store.new) (S.stood_since store.old) (S.stood_since store.new)) }
+    ensures ok { IfOk result
+        (PlacesOne layout.now node.now name.now (P.held snap.old) key.now (S.state store.old)
+        (S.state store.new) (S.stood_since store.old) (S.stood_since store.new)) }
+    ensures err { OnErr result
+        (PlacesSome layout.now node.now name.now (P.held snap.old) (key.now ∷ [])
+        (S.state store.old) (S.state store.new) (S.stood_since store.old) (S.stood_since store.new)) }
     ensures same { P.held snap.new ≡ P.held snap.old }
     ensures snap_later { P.faults snap.old ≤ P.faults snap.new }
     ensures store_later { (S.state store.old).faults ≤ (S.state store.new).faults }
-    ensures cause { IfErr result (IsCaused (P.faults snap.old) (P.faults snap.new) (S.state store.old).faults (S.state store.new).faults) }
+    ensures cause { IfErr result
+        (IsCaused (P.faults snap.old) (P.faults snap.new) (S.state store.old).faults
+        (S.state store.new).faults) }
 {
     let path = match layout.own(alloc, node, name, key) {
         Ok(path) => path,
@@ -102,12 +112,19 @@ pub(crate) fn place_all<S: Storage, P: Snap>(
     keys: &[FileKey],
 ) -> Result<Vec<FileRecord>, CopyFault>
     requires { IfSome (P.held snap.old) (λ s. AllByRecursion (λ key. HasKey key s) keys.now) }
-    ensures ok { IfOk result (λ files. PlacesAll layout.now node.now name.now (P.held snap.old) keys.now (S.state store.old) (S.state store.new) (S.stood_since store.old) (S.stood_since store.new) files.items) }
-    ensures err { OnErr result (PlacesSome layout.now node.now name.now (P.held snap.old) keys.now (S.state store.old) (S.state store.new) (S.stood_since store.old) (S.stood_since store.new)) }
+    ensures ok { IfOk result
+        (λ files. PlacesAll layout.now node.now name.now (P.held snap.old) keys.now
+        (S.state store.old) (S.state store.new) (S.stood_since store.old) (S.stood_since store.new)
+        files.items) }
+    ensures err { OnErr result
+        (PlacesSome layout.now node.now name.now (P.held snap.old) keys.now (S.state store.old)
+        (S.state store.new) (S.stood_since store.old) (S.stood_since store.new)) }
     ensures same { P.held snap.new ≡ P.held snap.old }
     ensures snap_later { P.faults snap.old ≤ P.faults snap.new }
     ensures store_later { (S.state store.old).faults ≤ (S.state store.new).faults }
-    ensures cause { IfErr result (IsCaused (P.faults snap.old) (P.faults snap.new) (S.state store.old).faults (S.state store.new).faults) }
+    ensures cause { IfErr result
+        (IsCaused (P.faults snap.old) (P.faults snap.new) (S.state store.old).faults
+        (S.state store.new).faults) }
 {
     let mut files = Vec::new(alloc);
     for key in keys {

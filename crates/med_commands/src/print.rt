@@ -25,7 +25,8 @@ pub(crate) fn write_whole<O: Sink>(out: &mut O, bytes: &[u8]) -> Result<(), Sink
 
 /// Writes pieces one after another.
 pub(crate) fn write_pieces<O: Sink>(out: &mut O, pieces: &[&[u8]]) -> Result<(), SinkFailed>
-    ensures text { Prints (concat (map (λ x. x.now) pieces.now)) (O.taken out.old) (O.taken out.new) result }
+    ensures text { Prints (concat (map (λ x. x.now) pieces.now)) (O.taken out.old) (O.taken out.new)
+        result }
     ensures later { O.faults out.old ≤ O.faults out.new }
     ensures failed { OnErr result (Rose (O.faults out.old) (O.faults out.new)) }
 {

@@ -4,7 +4,8 @@ use Rattle.med_base.specs.Content.{Content}
 use Rattle.med_outside.specs.Effects.{Effect, made, applied, after_all, IsMoment}
 use Rattle.med_outside.specs.State.{State, Passes, Moves, with_layout}
 
-pub applied-append : (xs ys : List Effect) (c : Content) → applied (xs ++ ys) c ≡ applied ys (applied xs c)
+pub applied-append : (xs ys : List Effect) (c : Content)
+    → applied (xs ++ ys) c ≡ applied ys (applied xs c)
 applied-append [] ys c = refl
 applied-append (x ∷ xs) ys c = applied-append xs ys (made x c)
 
@@ -18,7 +19,8 @@ after_all-nothing None = refl
 after_all-nothing (Some c) = refl
 
 -- a moment of the first changes is one of all
-moment_more : (xs ys : List Effect) (told : Option Content) (c : Content) → IsMoment xs told c → IsMoment (xs ++ ys) told c
+moment_more : (xs ys : List Effect) (told : Option Content) (c : Content) → IsMoment xs told c
+    → IsMoment (xs ++ ys) told c
 moment_more xs ys told c m = record {
   first = m.first;
   later = m.later ++ ys;
@@ -27,7 +29,8 @@ moment_more xs ys told c m = record {
 }
 
 -- a moment of the later changes, over what the first ones left
-moment_later : (xs ys : List Effect) (told mid : Option Content) (c : Content) → mid ≡ after_all xs told → IsMoment ys mid c → IsMoment (xs ++ ys) told c
+moment_later : (xs ys : List Effect) (told mid : Option Content) (c : Content)
+    → mid ≡ after_all xs told → IsMoment ys mid c → IsMoment (xs ++ ys) told c
 moment_later xs ys told mid c is m = record {
   first = xs ++ m.first;
   later = m.later;
@@ -73,7 +76,8 @@ pub moves_at_rest : (s : State) (p : ℕ → Content → Type 0) → Moves [] s 
 moves_at_rest s p = record { passes = passes_at_rest s p; terms = refl }
 
 -- the layout says nothing of what a call changed
-pub passes_from_layout : (before : List ℕ) (xs : List Effect) (s0 s1 : State) (p0 p1 : ℕ → Content → Type 0)
+pub passes_from_layout : (before : List ℕ) (xs : List Effect) (s0 s1 : State)
+    (p0 p1 : ℕ → Content → Type 0)
     → Passes xs (with_layout before s0) s1 p0 p1 → Passes xs s0 s1 p0 p1
 passes_from_layout before xs s0 s1 p0 p1 a = record {
   content = a.content;

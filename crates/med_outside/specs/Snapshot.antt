@@ -14,11 +14,16 @@ pub record Snapshot : Type 0 where
 
 -- a raw key as a key of files, whether or not its parts are components
 abbrev pub raw_name : RawKey → FileKey
-raw_name k = record { keyspace = string_bytes k.keyspace; table = string_bytes k.table; file = string_bytes k.file }
+raw_name k = record {
+  keyspace = string_bytes k.keyspace;
+  table = string_bytes k.table;
+  file = string_bytes k.file;
+}
 
 abbrev pub HasKey : FileKey → Snapshot → Type 0
 HasKey key s = IsTrue (contains_key s.files key)
 
 -- the order lists each key that has a file once, and no other
 abbrev pub IsListed : Snapshot → Type 0
-IsListed s = (key : FileKey) → count_by (key_eq key) s.order ≡ (if contains_key s.files key then 1 else 0)
+IsListed s = (key : FileKey) → count_by (key_eq key)
+    s.order ≡ (if contains_key s.files key then 1 else 0)

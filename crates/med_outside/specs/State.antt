@@ -22,17 +22,20 @@ pub record State : Type 0 where
 -- Exactly these changes were made, in order: the content is the old one with all of them, and
 -- what stood since an earlier step stood before, or is the old one with the first of them.
 -- `past` and `since` are the contents that stood, by the step since which they did.
-pub record Passes (xs : List Effect) (old new : State) (past since : ℕ → Content → Type 0) : Type 0 where
-  pub content : new.content ≡ after_all xs old.content
-  pub told : is_some new.second ≡ is_some old.second
-  pub later : old.step ≤ new.step
-  pub moments : (t : ℕ) (c : Content) → t ≤ old.step → since t c → past t c ⊎ IsMoment xs old.content c
-  pub keeps : (t : ℕ) (c : Content) → t ≤ old.step → past t c → since t c
+pub record Passes (xs : List Effect) (old new : State) (past since : ℕ → Content → Type 0) : Type 0
+  where
+    pub content : new.content ≡ after_all xs old.content
+    pub told : is_some new.second ≡ is_some old.second
+    pub later : old.step ≤ new.step
+    pub moments : (t : ℕ) (c : Content) → t ≤ old.step → since t c → past t c
+        ⊎ IsMoment xs old.content c
+    pub keeps : (t : ℕ) (c : Content) → t ≤ old.step → past t c → since t c
 
 -- the same, and the terms stay
-pub record Moves (xs : List Effect) (old new : State) (past since : ℕ → Content → Type 0) : Type 0 where
-  pub passes : Passes xs old new past since
-  pub terms : new.terms ≡ old.terms
+pub record Moves (xs : List Effect) (old new : State) (past since : ℕ → Content → Type 0) : Type 0
+  where
+    pub passes : Passes xs old new past since
+    pub terms : new.terms ≡ old.terms
 
 -- nothing changed, but for the step and the count of faults
 pub record Looks (old new : State) (past since : ℕ → Content → Type 0) : Type 0 where

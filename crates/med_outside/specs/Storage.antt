@@ -18,11 +18,13 @@ abbrev pub listing : List ℕ → Content → List Entry
 listing text c = map entry_of (objects_under text c)
 
 -- the object was stored, with the second that was told
-pub record Put (path bytes : List ℕ) (old new : State) (past since : ℕ → Content → Type 0) (at : ℕ) : Type 0 where
+pub record Put (path bytes : List ℕ) (old new : State) (past since : ℕ → Content → Type 0)
+    (at : ℕ) : Type 0 where
   pub moves : Moves (Stores path bytes at ∷ []) old new past since
   pub second : IsToldAs old.second at
 
 -- after a failure: nothing changed, or the object was stored
-abbrev pub MayPut : List ℕ → List ℕ → (old new : State) → (past since : ℕ → Content → Type 0) → Type 0
+abbrev pub MayPut : List ℕ → List ℕ → (old new : State) → (past since : ℕ → Content → Type 0)
+    → Type 0
 MayPut path bytes old new past since =
     Looks old new past since ⊎ ((at : ℕ) × Put path bytes old new past since at)

@@ -27,14 +27,16 @@ pub trait Snap: Drop {
 
     /// The keys of all files without repeats, in the order that the snapshot tells.
     fn keys(&mut self, alloc: Global) -> Result<Vec<RawKey>, Denied>
-        ensures keys { IfOk result (λ keys. IfSome (held self.old) (λ s. map raw_name keys.items ≡ s.order)) }
+        ensures keys { IfOk result
+            (λ keys. IfSome (held self.old) (λ s. map raw_name keys.items ≡ s.order)) }
         ensures same { held self.new ≡ held self.old }
         ensures cause { HasCause (faults self.old) (faults self.new) result };
 
     /// The bytes of a file, whose key must be one of the snapshot's.
     fn read(&mut self, alloc: Global, key: &FileKey) -> Result<Vec<u8>, Denied>
         requires { IfSome (held self.old) (HasKey key.now) }
-        ensures bytes { IfOk result (λ bytes. IfSome (held self.old) (λ s. finite.get s.files key.now ≡ Some bytes.items)) }
+        ensures bytes { IfOk result
+            (λ bytes. IfSome (held self.old) (λ s. finite.get s.files key.now ≡ Some bytes.items)) }
         ensures same { held self.new ≡ held self.old }
         ensures cause { HasCause (faults self.old) (faults self.new) result };
 
@@ -66,7 +68,8 @@ pub trait Nodes {
         node: &Fqdn,
         tag: &str,
     ) -> Result<Self::Snap, Denied>
-        ensures held { IfOk result (λ snap. Self.Snap.held snap ≡ snaps self.old root.now node.now tag.now) }
+        ensures held { IfOk result
+            (λ snap. Self.Snap.held snap ≡ snaps self.old root.now node.now tag.now) }
         ensures fresh { IfOk result (λ snap. Self.Snap.faults snap ≡ 0) }
         ensures same { snaps self.new ≡ snaps self.old }
         ensures cause { HasCause (faults self.old) (faults self.new) result };
@@ -76,5 +79,6 @@ pub trait Nodes {
     fn close(&mut self, snap: Self::Snap)
         ensures same { snaps self.new ≡ snaps self.old }
         ensures later { faults self.old ≤ faults self.new }
-        ensures faults { faults self.new ≡ min (faults self.old + Self.Snap.faults snap) (2 ^ 64 - 1) };
+        ensures faults { faults self.new ≡ min (faults self.old + Self.Snap.faults snap)
+            (2 ^ 64 - 1) };
 }

@@ -23,5 +23,6 @@ pub trait Sink {
         ensures err { OnErr result (taken self.new ≡ taken self.old) }
         ensures later { faults self.old ≤ faults self.new }
         ensures failed { OnErr result (Rose (faults self.old) (faults self.new)) }
-        ensures stuck { result ≡ Ok 0 → 0 < length bytes.now → Rose (faults self.old) (faults self.new) };
+        ensures stuck { result ≡ Ok 0 → 0 < length bytes.now
+            → Rose (faults self.old) (faults self.new) };
 }

@@ -41,8 +41,12 @@ pub trait Storage: Sized {
         bucket: &str,
         prefix: &Layout,
     ) -> Result<(), Denied>
-        ensures ok { OnOk result (Moves [] (with_layout prefix.now (state self.old)) (state self.new) (stood_since self.old) (stood_since self.new)) }
-        ensures err { OnErr result (Moves [] (state self.old) (state self.new) (stood_since self.old) (stood_since self.new)) }
+        ensures ok { OnOk result
+            (Moves [] (with_layout prefix.now (state self.old)) (state self.new)
+            (stood_since self.old) (stood_since self.new)) }
+        ensures err { OnErr result
+            (Moves [] (state self.old) (state self.new) (stood_since self.old)
+            (stood_since self.new)) }
         ensures second { (state self.new).second ≡ (state self.old).second }
         ensures cause { HasCause (state self.old).faults (state self.new).faults result };
 
@@ -50,21 +54,29 @@ pub trait Storage: Sized {
     fn now(&mut self) -> u64
         ensures value { IsToldAs (state self.old).second result }
         ensures same { state self.new ≡ state self.old }
-        ensures looks { Looks (state self.old) (state self.new) (stood_since self.old) (stood_since self.new) };
+        ensures looks { Looks (state self.old) (state self.new) (stood_since self.old)
+            (stood_since self.new) };
 
     /// Stores the bytes under the path, in place of an object that was there, with the second that
     /// `now` gives, and answers that second. After `Failed` the object was stored or it wasn't;
     /// after `Memory` it wasn't.
     fn put(&mut self, alloc: Global, path: &ObjPath, bytes: &[u8]) -> Result<u64, Denied>
-        ensures ok { IfOk result (Put path.now bytes.now (state self.old) (state self.new) (stood_since self.old) (stood_since self.new)) }
-        ensures failed { IsErrOf result Denied.Failed → MayPut path.now bytes.now (state self.old) (state self.new) (stood_since self.old) (stood_since self.new) }
-        ensures memory { IsErrOf result Denied.Memory → Looks (state self.old) (state self.new) (stood_since self.old) (stood_since self.new) }
+        ensures ok { IfOk result
+            (Put path.now bytes.now (state self.old) (state self.new) (stood_since self.old)
+            (stood_since self.new)) }
+        ensures failed { IsErrOf result Denied.Failed
+            → MayPut path.now bytes.now (state self.old) (state self.new) (stood_since self.old)
+            (stood_since self.new) }
+        ensures memory { IsErrOf result Denied.Memory
+            → Looks (state self.old) (state self.new) (stood_since self.old) (stood_since self.new) }
         ensures cause { HasCause (state self.old).faults (state self.new).faults result };
 
     /// The objects whose path begins with a text, in byte order of their paths.
     fn list(&mut self, alloc: Global, under: &str) -> Result<Vec<Entry>, Denied>
-        ensures entries { IfOk result (λ entries. IfSome (state self.old).content (λ c. entries.items ≡ listing under.now c)) }
-        ensures looks { Looks (state self.old) (state self.new) (stood_since self.old) (stood_since self.new) }
+        ensures entries { IfOk result
+            (λ entries. IfSome (state self.old).content (λ c. entries.items ≡ listing under.now c)) }
+        ensures looks { Looks (state self.old) (state self.new) (stood_since self.old)
+            (stood_since self.new) }
         ensures cause { HasCause (state self.old).faults (state self.new).faults result };
 
     /// What it holds now is one of what it held since an earlier step.

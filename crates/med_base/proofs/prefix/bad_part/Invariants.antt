@@ -7,7 +7,8 @@ use Rattle.med_base.proofs.prefix.bad_part.Given as goal
 -- the parts so far are good, and those that are left are looked at from here on
 abbrev pub invariant-parts : goal.invariant-parts
 invariant-parts l = record {
-  same : bad_part_at l.start (pieces_left 47 (option_map (λ s. s.now) l.rest)) ≡ bad_part_at 0 (parts l.prefix);
+  same : bad_part_at l.start (pieces_left 47 (option_map (λ s. s.now) l.rest)) ≡ bad_part_at 0
+      (parts l.prefix);
   reached : IfSome l.rest (λ s. l.start + length s.now ≡ length l.prefix);
 }
 

@@ -5,6 +5,13 @@ use Rattle.med_commands.proofs.fault.say_taken.Goals as goal
 
 pub returns-clause-text : goal.returns-clause-text
 returns-clause-text g c =
-    let said = rw (c.as_slice.ensures, c.as_bytes.ensures.value, c.as_slice-2.ensures, c.as_bytes-2.ensures.value, c.as_slice-3.ensures) at c.write_pieces.ensures.text in
-    subst (λ (t : List ℕ). Prints t (g.E.Sink.taken c.args.err.now) (g.E.Sink.taken c.write_pieces.new.out) c.write_pieces.result)
+    let said = rw (
+      c.as_slice.ensures,
+      c.as_bytes.ensures.value,
+      c.as_slice-2.ensures,
+      c.as_bytes-2.ensures.value,
+      c.as_slice-3.ensures,
+    ) at c.write_pieces.ensures.text in
+    subst (λ (t : List ℕ). Prints t (g.E.Sink.taken c.args.err.now)
+    (g.E.Sink.taken c.write_pieces.new.out) c.write_pieces.result)
     (taken_said c.args.name.now c.args.path.now) said

@@ -7,6 +7,7 @@ use Rattle.med_commands.proofs.print.write_pieces.Given as goal
 
 abbrev pub invariant-loop-piece : goal.invariant-loop-piece
 invariant-loop-piece g l = record {
-  told : Wrote (concat (map (λ (x : Bor (List ℕ)). x.now) (take l.piece-index l.pieces))) (g.O.Sink.taken l.fn.out) (g.O.Sink.taken l.out);
+  told : Wrote (concat (map (λ (x : Bor (List ℕ)). x.now) (take l.piece-index l.pieces)))
+      (g.O.Sink.taken l.fn.out) (g.O.Sink.taken l.out);
   later : g.O.Sink.faults l.fn.out ≤ g.O.Sink.faults l.out;
 }

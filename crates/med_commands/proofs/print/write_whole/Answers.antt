@@ -10,6 +10,7 @@ loop-done-preserved g c =
     let told = rw tail_from at c.in_ok-n.ensures.ok in
     record {
       bound = omega (arith, length-drop c.loop-done.done bytes);
-      told = rw (take-add c.loop-done.done c.in_ok-n.n bytes) (wrote_on _ _ _ _ _ c.loop-done.invariant.told told);
+      told = rw (take-add c.loop-done.done c.in_ok-n.n bytes)
+          (wrote_on _ _ _ _ _ c.loop-done.invariant.told told);
       later = omega arith;
     }
