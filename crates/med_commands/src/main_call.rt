@@ -58,7 +58,9 @@ fn back_up<S: Storage, N: Nodes>(
 ) -> Result<Made, Fault>
     ensures ok { IfOk result (λ made. Asks (map string_bytes words.now) made.name
         × (made.node ≡ node_name)
-        × IsMade [] node_name made.name (snap_of (N.snaps nodes.old) made.name) (S.state store.old) (S.state store.new) (S.stood_since store.old) (S.stood_since store.new) made.files.items) }
+        × IsMade [] node_name made.name (snap_of (N.snaps nodes.old) made.name)
+        (S.state store.old) (S.state store.new) (S.stood_since store.old)
+        (S.stood_since store.new) made.files.items) }
     ensures err { IfErr result
         (IsFaultOf (record {
           words = map string_bytes words.now;
@@ -186,9 +188,11 @@ pub fn medusa_main<S: Storage, N: Nodes, O: Sink, E: Sink>(
     ensures read_line { result ≡ code ReadFault
         → Complains (codes "read fault") (E.taken err.old) (E.taken err.new) (E.faults err.old)
         (E.faults err.new) }
-    ensures storage_fault { result ≡ code StorageFault → Rose (S.state store.old).faults (S.state store.new).faults }
-    ensures storage_line { result ≡ code StorageFault → Complains (codes "storage fault") (E.taken err.old)
-        (E.taken err.new) (E.faults err.old) (E.faults err.new) }
+    ensures storage_fault { result ≡ code StorageFault
+        → Rose (S.state store.old).faults (S.state store.new).faults }
+    ensures storage_line { result ≡ code StorageFault
+        → Complains (codes "storage fault") (E.taken err.old) (E.taken err.new) (E.faults err.old)
+        (E.faults err.new) }
 
     // 10: the count of `out` rose; all is as at 0, but that a proper prefix of the line was written.
     ensures write_fault { result ≡ code WriteFault → Rose (O.faults out.old) (O.faults out.new) }
@@ -200,8 +204,8 @@ pub fn medusa_main<S: Storage, N: Nodes, O: Sink, E: Sink>(
         (E.faults err.new) }
 
     // 11: the snapshot has no key, or one that is no name of a file.
-    ensures bad_snapshot { result ≡ code BadSnapshot → HasBadSnapshot (map string_bytes words.now)
-        (snap_of (N.snaps nodes.old))
+    ensures bad_snapshot { result ≡ code BadSnapshot
+        → HasBadSnapshot (map string_bytes words.now) (snap_of (N.snaps nodes.old))
         (λ text. Complains text (E.taken err.old) (E.taken err.new) (E.faults err.old)
         (E.faults err.new)) }
 
