@@ -1,2 +1,4 @@
+pub mod Listing
 pub mod Memory
+pub mod Place
 pub mod Untold

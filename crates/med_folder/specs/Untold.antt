@@ -1,5 +1,6 @@
 -- What contracts see of a storage over real files: its faults and its layout.
 use Rattle.std.specs.Prelude.{ℕ, List, None}
+use Rattle.med_base.specs.Content.{Content}
 use Rattle.med_outside.specs.State.{State}
 
 pub record Edge : Type 0 where
@@ -17,3 +18,7 @@ untold edge = record {
   step = 0;
   terms = record { layout = edge.layout };
 }
+
+-- no content is known to have stood since any step
+abbrev pub never : ℕ → Content → Type 0
+never step content = ⊥

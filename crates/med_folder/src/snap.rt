@@ -1,10 +1,13 @@
 // The snapshot of a node as folders.
-ghost use Rattle.std.specs.Prelude.{◌≡◌, None, IfOk};
+ghost use Rattle.std.specs.Prelude.{◌≡◌, None, true, IfOk, OnOk};
+ghost use Rattle.std.specs.List.{list_all};
+ghost use Rattle.med_base.specs.Prefix.{parts};
 ghost use Rattle.med_outside.specs.Snapshot.{raw_name};
+ghost use Rattle.med_folder.specs.Place.{is_name};
 
 use crate::count::{counted, is_absent};
 use crate::files::{is_plain_way, read_plain};
-use crate::paths::{is_part, joined, parent_of};
+use crate::paths::{has_plain_parts, is_name, joined, parent_of};
 use med_base::FileKey;
 use med_outside::{Denied, RawKey, Snap};
 use std::alloc::{AllocError, Global};
@@ -51,7 +54,7 @@ pub(crate) fn open_snap<R: Clone + Drop>(
 ) -> io::Result<FolderSnap<R>>
     ensures { IfOk result (λ snap. snap ≡ 0) }
 {
-    if !is_part(tag) {
+    if !is_name(tag.as_bytes()) {
         return Err(io::Error::from(ErrorKind::InvalidFilename));
     }
     let mut above = String::from_str(alloc, before)?;
@@ -105,10 +108,13 @@ fn names_in<R: Files + AllocGlobal + Clone + Drop>(
 fn raw_key(alloc: Global, keyspace: &str, table: &str, file: &str) -> Result<RawKey, AllocError>
     ensures { IfOk result (λ key. raw_name key ≡ record { keyspace = keyspace.now; table = table.now; file = file.now }) }
 {
+    let keyspace = String::from_str(alloc, keyspace)?;
+    let table = String::from_str(alloc, table)?;
+    let file = String::from_str(alloc, file)?;
     Ok(RawKey {
-        keyspace: String::from_str(alloc, keyspace)?,
-        table: String::from_str(alloc, table)?,
-        file: String::from_str(alloc, file)?,
+        keyspace,
+        table,
+        file,
     })
 }
 
@@ -155,9 +161,10 @@ fn table_folder(
     table: &str,
     tag: &str,
 ) -> Result<String, AllocError> {
-    let table = joined(alloc, keyspace, table)?;
-    let snapshots = joined(alloc, table.as_str(), "snapshots")?;
-    joined(alloc, snapshots.as_str(), tag)
+    let mut folder = joined(alloc, keyspace, table)?;
+    folder.push_str("/snapshots/")?;
+    folder.push_str(tag)?;
+    Ok(folder)
 }
 
 fn keys_of_keyspace<R: Files + AllocGlobal + Clone + Drop>(
@@ -197,21 +204,31 @@ fn keys_of_node<R: Files + AllocGlobal + Clone + Drop>(
     Ok(keys)
 }
 
-// The folder of a file, below the folder of the node's data. A table is divided before its first
-// dot. No part of the folder leaves that one.
-fn folder_of(alloc: Global, tag: &str, key: &FileKey) -> io::Result<String> {
+// The path of a file below the folder of the node's data. A table is divided before its first dot
+// into its own folder and that of an index.
+fn path_of(alloc: Global, tag: &str, key: &FileKey) -> Result<String, AllocError> {
     let keyspace = key.keyspace.as_str();
     let table = key.table.as_str();
-    let Some((table, rest)) = table.split_once('.') else {
-        return Ok(table_folder(alloc, keyspace, table, tag)?);
+    let file = key.file.as_str();
+    let Some((table, index)) = table.split_once('.') else {
+        let folder = table_folder(alloc, keyspace, table, tag)?;
+        return joined(alloc, folder.as_str(), file);
     };
-    let mut index = String::from_str(alloc, ".")?;
-    index.push_str(rest)?;
-    if !is_part(table) || !is_part(index.as_str()) {
+    let mut folder = table_folder(alloc, keyspace, table, tag)?;
+    folder.push_str("/.")?;
+    folder.push_str(index)?;
+    joined(alloc, folder.as_str(), file)
+}
+
+// The bytes of a plain file below a folder, which its path doesn't leave.
+fn read_below<R: Files>(rt: &R, alloc: Global, top: &str, path: &str) -> io::Result<Vec<u8>>
+    ensures { OnOk result (list_all is_name (parts path.now) ≡ true) }
+{
+    if !has_plain_parts(path.as_bytes()) || !is_plain_way(rt, alloc, top, parent_of(path))? {
         return Err(io::Error::from(ErrorKind::InvalidFilename));
     }
-    let folder = table_folder(alloc, keyspace, table, tag)?;
-    Ok(joined(alloc, folder.as_str(), index.as_str())?)
+    let path = joined(alloc, top, path)?;
+    read_plain(rt, alloc, path.as_str())
 }
 
 fn read_file<R: Files>(
@@ -222,13 +239,8 @@ fn read_file<R: Files>(
     key: &FileKey,
 ) -> io::Result<Vec<u8>> {
     let data = joined(alloc, node, "data")?;
-    let folder = folder_of(alloc, tag, key)?;
-    if !is_plain_way(rt, alloc, data.as_str(), folder.as_str())? {
-        return Err(io::Error::from(ErrorKind::NotADirectory));
-    }
-    let folder = joined(alloc, data.as_str(), folder.as_str())?;
-    let path = joined(alloc, folder.as_str(), key.file.as_str())?;
-    read_plain(rt, alloc, path.as_str())
+    let path = path_of(alloc, tag, key)?;
+    read_below(rt, alloc, data.as_str(), path.as_str())
 }
 
 fn read_schema<R: Files>(rt: &R, alloc: Global, node: &str) -> io::Result<Vec<u8>> {

@@ -1,10 +1,16 @@
 // A bucket as a folder.
-ghost use Rattle.std.specs.Prelude.{◌≡◌, ◌≤◌, [], IfOk};
-ghost use Rattle.med_folder.specs.Untold.{untold};
+ghost use Rattle.std.specs.Prelude.{◌≡◌, [], true, IfOk, IfSome, IsErrOf, OnOk};
+ghost use Rattle.med_outside.specs.declared.denied.Denied.TheVariants.{Failed, Memory};
+ghost use Rattle.med_outside.specs.Causes.{HasCause};
+ghost use Rattle.med_outside.specs.State.{Looks};
+ghost use Rattle.med_outside.specs.Storage.{Put, MayPut, listing};
+ghost use Rattle.med_folder.specs.Listing.{AreUnder, AreInOrder};
+ghost use Rattle.med_folder.specs.Place.{is_object_path};
+ghost use Rattle.med_folder.specs.Untold.{untold, never};
 
 use crate::count::{counted, is_absent};
 use crate::files::{check_folder, is_plain_way, make_folders, move_in, sync_way, write_anew};
-use crate::paths::{UNFINISHED, is_object_path, joined, parent_of};
+use crate::paths::{UNFINISHED, UPLOAD, is_object_path, joined, parent_of};
 use crate::seconds::second_or;
 use crate::walk::files_under;
 use med_base::{Layout, ObjPath};
@@ -54,6 +60,15 @@ impl<R> FolderStore<R> {
     }
 }
 
+// Makes a folder that holds nothing in place of what was there. It follows no link.
+fn clear_folder<R: Files + AllocGlobal>(rt: &R, path: &str) -> io::Result<()> {
+    match fs::remove_dir_all(rt, path) {
+        Err(error) if !is_absent(&error) => return Err(error),
+        _ => {}
+    }
+    make_folders(rt, path)
+}
+
 // Makes the bucket's folder, and its folder of unfinished files anew. It answers the bucket's.
 fn open_bucket<R: Files + AllocGlobal>(
     rt: &R,
@@ -67,11 +82,7 @@ fn open_bucket<R: Files + AllocGlobal>(
     let folder = joined(alloc, above.as_str(), bucket)?;
     make_folders(rt, folder.as_str())?;
     let unfinished = joined(alloc, folder.as_str(), UNFINISHED)?;
-    match fs::remove_dir_all(rt, unfinished.as_str()) {
-        Err(error) if !is_absent(&error) => return Err(error),
-        _ => {}
-    }
-    make_folders(rt, unfinished.as_str())?;
+    clear_folder(rt, unfinished.as_str())?;
     sync_way(rt, above.as_str(), unfinished.as_str())?;
     Ok(folder)
 }
@@ -83,17 +94,18 @@ fn put_file<R: Files>(
     path: &str,
     bytes: &[u8],
     second: u64,
-) -> io::Result<()> {
+) -> io::Result<()>
+    ensures { OnOk result (is_object_path path.now ≡ true) }
+{
     check_folder(rt, bucket)?;
-    if !is_object_path(path)
+    if !is_object_path(path.as_bytes())
         || !is_plain_way(rt, alloc, bucket, parent_of(path))?
         || !is_plain_way(rt, alloc, bucket, UNFINISHED)?
     {
         return Err(io::Error::from(ErrorKind::InvalidFilename));
     }
-    let folder = joined(alloc, bucket, UNFINISHED)?;
-    let unfinished = joined(alloc, folder.as_str(), "rest")?;
     let place = joined(alloc, bucket, path)?;
+    let unfinished = joined(alloc, bucket, UPLOAD)?;
     write_anew(rt, unfinished.as_str(), bytes, second)?;
     move_in(rt, unfinished.as_str(), bucket, place.as_str())
 }
@@ -101,7 +113,7 @@ fn put_file<R: Files>(
 impl<R: Files + Clock + AllocGlobal + Clone + Drop> Storage for FolderStore<R> {
     ghost state = { untold };
 
-    ghost stood_since = { λ _ _ _. ⊥ };
+    ghost stood_since = { λ _. never };
 
     fn open(
         &mut self,
@@ -122,7 +134,14 @@ impl<R: Files + Clock + AllocGlobal + Clone + Drop> Storage for FolderStore<R> {
         self.last
     }
 
-    fn put(&mut self, alloc: Global, path: &ObjPath, bytes: &[u8]) -> Result<u64, Denied> {
+    /// As the trait says. A path that isn't an object's is a fault.
+    fn put(&mut self, alloc: Global, path: &ObjPath, bytes: &[u8]) -> Result<u64, Denied>
+        ensures ok { IfOk result (Put path.now bytes.now (untold self.old) (untold self.new) never never) }
+        ensures failed { IsErrOf result Denied.Failed → MayPut path.now bytes.now (untold self.old) (untold self.new) never never }
+        ensures memory { IsErrOf result Denied.Memory → Looks (untold self.old) (untold self.new) never never }
+        ensures cause { HasCause self.old.faults self.new.faults result }
+        ensures place { OnOk result (is_object_path path.now ≡ true) }
+    {
         let second = self.now();
         let bucket = self.bucket.as_str();
         let outcome = put_file(&self.rt, alloc, bucket, path.as_str(), bytes, second);
@@ -130,7 +149,14 @@ impl<R: Files + Clock + AllocGlobal + Clone + Drop> Storage for FolderStore<R> {
         Ok(second)
     }
 
-    fn list(&mut self, alloc: Global, under: &str) -> Result<Vec<Entry>, Denied> {
+    /// As the trait says. Only plain files are listed, and no link is followed.
+    fn list(&mut self, alloc: Global, under: &str) -> Result<Vec<Entry>, Denied>
+        ensures entries { IfOk result (λ entries. IfSome (untold self.old).content (λ c. entries.items ≡ listing under.now c)) }
+        ensures looks { Looks (untold self.old) (untold self.new) never never }
+        ensures cause { HasCause self.old.faults self.new.faults result }
+        ensures under { IfOk result (λ entries. AreUnder under.now entries.items) }
+        ensures order { IfOk result (λ entries. AreInOrder entries.items) }
+    {
         let outcome = files_under(&self.rt, alloc, self.bucket.as_str(), under);
         counted(&mut self.faults, outcome)
     }

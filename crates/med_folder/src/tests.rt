@@ -1,31 +1,49 @@
 // Each object once over real folders.
+use crate::files::{make_folders, write_anew};
 use crate::paths::parent_of;
 use crate::{FolderNodes, FolderStore};
 use med_base::{Component, FileKey, Fqdn, Layout, NameError, ObjPath};
 use med_outside::{Denied, Nodes, Snap, Storage};
 use std::alloc::Global;
 use std::fs::Files;
+use std::io;
 use std::os::unix::fs::symlink;
 use std::test::Fail;
-use std::{fs, io};
+use std::time::{SystemTime, UNIX_EPOCH};
 
-// Puts three objects of three bytes, and answers their seconds.
-fn put_three<S: Storage>(alloc: Global, store: &mut S) -> Result<[u64; 3], Denied> {
-    store.open(alloc, "/b", "k", &Layout::plain(alloc))?;
-    let mut seconds = [0; 3];
-    for (i, path) in ["n1/b1/meta/schema.cql", "a/x", "a-b/x"].iter().enumerate() {
-        let path = ObjPath::of(alloc, *path)?;
-        seconds[i] = store.put(alloc, &path, b"abc")?;
-    }
-    Ok(seconds)
+fn make_file<R: Files>(rt: &R, path: &str, text: &str) -> io::Result<()> {
+    make_folders(rt, parent_of(path))?;
+    write_anew(rt, path, text.as_bytes(), 0)
 }
 
-fn list_all<S: Storage>(alloc: Global, store: &mut S) -> Result<String, Denied> {
+fn put_text<S: Storage>(
+    alloc: Global,
+    store: &mut S,
+    path: &str,
+    text: &str,
+) -> Result<u64, Denied> {
+    let path = ObjPath::of(alloc, path)?;
+    store.put(alloc, &path, text.as_bytes())
+}
+
+// Puts three objects, and answers their seconds.
+fn put_three<S: Storage>(alloc: Global, store: &mut S) -> Result<[u64; 3], Denied> {
+    store.open(alloc, "/b", "k", &Layout::plain(alloc))?;
+    let schema = put_text(alloc, store, "n1/b1/meta/schema.cql", "abc")?;
+    let empty = put_text(alloc, store, "a/x", "")?;
+    let dashed = put_text(alloc, store, "a-b/x", "de")?;
+    Ok([schema, empty, dashed])
+}
+
+// The listings under nothing and under a text that is no folder, one after the other.
+fn list_twice<S: Storage>(alloc: Global, store: &mut S) -> Result<String, Denied> {
     let mut text = String::new(alloc);
-    for entry in &store.list(alloc, "")? {
-        let path = entry.path.as_str();
-        let (size, second) = (entry.size, entry.second);
-        text.push_str(format!(in alloc; "{path} {size} {second}\n")?.as_str())?;
+    for under in ["", "n1/b"] {
+        for entry in &store.list(alloc, under)? {
+            let path = entry.path.as_str();
+            let (size, second) = (entry.size, entry.second);
+            text.push_str(format!(in alloc; "{path} {size} {second}\n")?.as_str())?;
+        }
     }
     Ok(text)
 }
@@ -33,30 +51,28 @@ fn list_all<S: Storage>(alloc: Global, store: &mut S) -> Result<String, Denied> 
 #[test]
 fn a_store_lists_its_plain_files_in_byte_order(rt: HostRuntime) -> Result<(), Fail> {
     let alloc = rt.alloc();
+    let start = SystemTime::now(&rt)?.duration_since(UNIX_EPOCH)?.as_secs();
     let mut store = FolderStore::new(alloc, rt, ".");
-    let [schema, plain, dashed] = put_three(alloc, &mut store)?;
-    fs::write(&rt, "b/k/.medusa-tmp/left", "left")?;
+    let [schema, empty, dashed] = put_three(alloc, &mut store)?;
+    make_file(&rt, "b/k/.medusa-tmp/left", "left")?;
     symlink(&rt, "x", "b/k/a/link")?;
-    let listed = list_all(alloc, &mut store)?;
+    symlink(&rt, "a", "b/k/linked")?;
+    let is_refused = put_text(alloc, &mut store, "linked/y", "").is_err();
+    let listed = list_twice(alloc, &mut store)?;
+    let seen = (listed.as_str(), is_refused, start <= schema);
     let wanted = format!(in alloc;
-        "a-b/x 3 {dashed}\na/x 3 {plain}\nn1/b1/meta/schema.cql 3 {schema}\n"
+        "a-b/x 2 {dashed}\na/x 0 {empty}\nn1/b1/meta/schema.cql 3 {schema}\nn1/b1/meta/schema.cql 3 {schema}\n"
     )?;
-    assert_eq!(rt; listed, wanted);
+    assert_eq!(rt; seen, (wanted.as_str(), true, true));
     Ok(())
 }
 
-fn make_files<R: Files>(rt: &R) -> io::Result<()> {
-    for (path, text) in [
-        ("nodes/n1/schema.cql", "-- s\n"),
-        ("nodes/n1/data/ks/t-1/snapshots/medusa-b1/f", "abc"),
-        ("nodes/n1/data/ks/t-1/snapshots/medusa-b1/.i/g", "de"),
-        ("nodes/n1/data/ks/t-1/snapshots/medusa-b1/deeper/h", "no"),
-        ("nodes/n1/data/ks/u.v/snapshots/medusa-b1/f", "no"),
-    ] {
-        fs::create_dir_all(rt, parent_of(path))?;
-        fs::write(rt, path, text)?;
-    }
-    Ok(())
+fn make_node<R: Files>(rt: &R) -> io::Result<()> {
+    make_file(rt, "nodes/n1/schema.cql", "-- s\n")?;
+    make_file(rt, "nodes/n1/data/ks/t-1/snapshots/medusa-b1/f", "abc")?;
+    make_file(rt, "nodes/n1/data/ks/t-1/snapshots/medusa-b1/.i/g", "de")?;
+    make_file(rt, "nodes/n1/data/ks/t-1/snapshots/medusa-b1/deep/h", "no")?;
+    make_file(rt, "nodes/n1/data/ks/u.v/snapshots/medusa-b1/f", "no")
 }
 
 fn list_keys<N: Nodes>(alloc: Global, nodes: &mut N, node: &Fqdn) -> Result<String, Denied> {
@@ -79,30 +95,36 @@ fn key_of(alloc: Global, keyspace: &str, table: &str, file: &str) -> Result<File
     })
 }
 
+// The bytes of two files and of the schema, one after the other.
+fn read_all<R: Files + AllocGlobal + Clone + Drop>(
+    alloc: Global,
+    nodes: &mut FolderNodes<R>,
+    node: &Fqdn,
+    file: &FileKey,
+    index: &FileKey,
+) -> Result<Vec<u8>, Denied> {
+    let mut snap = nodes.open(alloc, "nodes", node, "medusa-b1")?;
+    let mut bytes = snap.read(alloc, file)?;
+    bytes.extend_from_slice(snap.read(alloc, index)?.as_slice())?;
+    bytes.extend_from_slice(snap.schema(alloc)?.as_slice())?;
+    Ok(bytes)
+}
+
 #[test]
 fn a_snapshot_lists_and_reads_files_and_indexes(rt: HostRuntime) -> Result<(), Fail> {
     let alloc = rt.alloc();
-    make_files(&rt)?;
+    make_node(&rt)?;
     let mut nodes = FolderNodes::new(rt, "");
     let node = Fqdn::read(alloc, "n1")?;
-    let keys = list_keys(alloc, &mut nodes, &node)?;
+    let listed = list_keys(alloc, &mut nodes, &node)?;
     let none = list_keys(alloc, &mut nodes, &Fqdn::read(alloc, "n2")?)?;
-    let mut snap = nodes.open(alloc, "nodes", &node, "medusa-b1")?;
-    let index = snap.read(alloc, &key_of(alloc, "ks", "t-1.i", "g")?)?;
-    let schema = snap.schema(alloc)?;
+    let file = key_of(alloc, "ks", "t-1", "f")?;
+    let index = key_of(alloc, "ks", "t-1.i", "g")?;
+    let bytes = read_all(alloc, &mut nodes, &node, &file, &index)?;
+    let seen = (listed.as_str(), none.as_str(), bytes.as_slice());
     assert_eq!(rt;
-        (
-            keys.as_str(),
-            none.as_str(),
-            index.as_slice(),
-            schema.as_slice()
-        ),
-        (
-            "ks t-1 f\nks t-1.i g\n",
-            "",
-            b"de".as_slice(),
-            b"-- s\n".as_slice()
-        )
+        seen,
+        ("ks t-1 f\nks t-1.i g\n", "", b"abcde-- s\n".as_slice())
     );
     Ok(())
 }

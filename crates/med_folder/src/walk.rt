@@ -1,16 +1,37 @@
 // The files under a text.
-ghost use Rattle.std.specs.Prelude.{◌≡◌, ◌||◌};
+ghost use Rattle.std.specs.Prelude.{◌≡◌, ◌||◌, [], IfOk, IsPermutation};
+ghost use Rattle.std.specs.Ordering.{nat_cmp};
+ghost use Rattle.std.specs.Cmp.Lexicographic.{slice_cmp};
 ghost use Rattle.med_base.specs.Content.{is_under};
+ghost use Rattle.med_folder.specs.Listing.{AreUnder, AreInOrder};
 
 use crate::count::is_absent;
 use crate::files::{check_folder, is_plain_way};
-use crate::paths::{UNFINISHED, is_object_path, joined, parent_of};
+use crate::paths::{is_object_path, is_unfinished, joined, parent_of};
 use crate::seconds::modified_second;
 use med_base::ObjPath;
 use med_outside::Entry;
 use std::alloc::Global;
+use std::cmp::Ordering;
 use std::fs::{DirEntry, Files};
 use std::{fs, io};
+
+// The folder at which a listing begins, with a slash at its end, where no link leads there. The
+// bucket's own is the empty text.
+fn first_folders<R: Files>(
+    rt: &R,
+    alloc: Global,
+    bucket: &str,
+    parent: &str,
+) -> io::Result<Vec<String>> {
+    let mut folders = Vec::new(alloc);
+    if parent.is_empty() {
+        folders.push(String::new(alloc))?;
+    } else if is_object_path(parent.as_bytes()) && is_plain_way(rt, alloc, bucket, parent)? {
+        folders.push(joined(alloc, parent, "")?)?;
+    }
+    Ok(folders)
+}
 
 /// The plain files below the bucket's folder whose path from there begins with a text, in byte
 /// order of these paths. No link is followed, and what is neither a file nor a folder is passed
@@ -20,25 +41,35 @@ pub(crate) fn files_under<R: Files + AllocGlobal + Clone + Drop>(
     alloc: Global,
     bucket: &str,
     under: &str,
-) -> io::Result<Vec<Entry>> {
+) -> io::Result<Vec<Entry>>
+    ensures under { IfOk result (λ entries. AreUnder under.now entries.items) }
+    ensures order { IfOk result (λ entries. AreInOrder entries.items) }
+{
     check_folder(rt, bucket)?;
     let mut found = Vec::new(alloc);
-    let mut folders = Vec::new(alloc);
-    let parent = parent_of(under);
-    if parent.is_empty() {
-        folders.push(String::new(alloc))?;
-    } else if is_object_path(parent) && is_plain_way(rt, alloc, bucket, parent)? {
-        folders.push(joined(alloc, parent, "")?)?;
-    }
-    for _ in 0..u64::MAX {
+    let mut folders = first_folders(rt, alloc, bucket, parent_of(under))?;
+    'folders: for _ in 0..u64::MAX {
         let Some(folder) = folders.pop() else {
-            found.sort_unstable_by(|a: &Entry, b: &Entry| a.path.as_str().cmp(b.path.as_str()));
+            sort_by_path(&mut found);
             return Ok(found);
         };
         let folder = folder.as_str();
         look_into(rt, alloc, bucket, folder, under, &mut folders, &mut found)?;
     }
     Err(io::Error::from(io::ErrorKind::FilesystemLoop))
+}
+
+fn path_order(a: &Entry, b: &Entry) -> Ordering
+    ensures { result ≡ slice_cmp nat_cmp a.now.path b.now.path }
+{
+    a.path.as_str().cmp(b.path.as_str())
+}
+
+fn sort_by_path(entries: &mut Vec<Entry>)
+    ensures same { IsPermutation entries.old.items entries.new.items }
+    ensures order { AreInOrder entries.new.items }
+{
+    entries.sort_unstable_by(path_order);
 }
 
 // What the folder holds: its files that are under the text, and the folders that may hold such.
@@ -50,14 +81,17 @@ fn look_into<R: Files + AllocGlobal + Clone + Drop>(
     under: &str,
     folders: &mut Vec<String>,
     found: &mut Vec<Entry>,
-) -> io::Result<()> {
+) -> io::Result<()>
+    requires { AreUnder under.now found.old.items }
+    ensures { AreUnder under.now found.new.items }
+{
     let path = joined(alloc, bucket, folder)?;
     let listing = match fs::read_dir(rt, path.as_str()) {
         Ok(listing) => listing,
         Err(error) if is_absent(&error) => return Ok(()),
         Err(error) => return Err(error),
     };
-    for entry in listing {
+    'entries: for entry in listing {
         take_entry(alloc, &entry?, folder, under, folders, found)?;
     }
     Ok(())
@@ -72,10 +106,13 @@ fn take_entry<R: Files + Clone + Drop>(
     under: &str,
     folders: &mut Vec<String>,
     found: &mut Vec<Entry>,
-) -> io::Result<()> {
+) -> io::Result<()>
+    requires { AreUnder under.now found.old.items }
+    ensures { AreUnder under.now found.new.items }
+{
     let mut path = String::from_str(alloc, folder)?;
     path.push_str(entry.file_name())?;
-    if path.as_str() == UNFINISHED {
+    if is_unfinished(path.as_str().as_bytes()) {
         return Ok(());
     }
     let metadata = match entry.metadata() {
@@ -88,7 +125,7 @@ fn take_entry<R: Files + Clone + Drop>(
         if may_hold(path.as_str(), under) {
             folders.push(path)?;
         }
-    } else if metadata.is_file() && path.as_str().starts_with(under) {
+    } else if metadata.is_file() && is_under_text(path.as_str(), under) {
         let size = metadata.len();
         let second = modified_second(&metadata)?;
         let path = ObjPath::from_string(path);
@@ -97,10 +134,15 @@ fn take_entry<R: Files + Clone + Drop>(
     Ok(())
 }
 
+fn is_under_text(path: &str, text: &str) -> bool
+    ensures { result ≡ is_under text.now path.now }
+{
+    path.as_bytes().starts_with(text.as_bytes())
+}
+
 // Whether a path that begins with the folder's may begin with the text.
 fn may_hold(folder: &str, under: &str) -> bool
     ensures { result ≡ (is_under folder.now under.now || is_under under.now folder.now) }
 {
-    let (folder, under) = (folder.as_bytes(), under.as_bytes());
-    under.starts_with(folder) || folder.starts_with(under)
+    is_under_text(under, folder) || is_under_text(folder, under)
 }

@@ -1,0 +1,23 @@
+-- Which paths below a bucket's folder are those of objects. This project's own rule.
+use Rattle.std.specs.Prelude.{ℕ, Bool, not, ◌&&◌, ◌||◌, ◌==◌, is_none, List, [], codes, position}
+use Rattle.std.specs.List.{list_all}
+use Rattle.std.specs.Str.{bytes_eq}
+use Rattle.med_base.specs.Content.{is_under}
+use Rattle.med_base.specs.Prefix.{parts}
+
+-- a slash or a NUL
+abbrev pub is_separator : ℕ → Bool
+is_separator b = (b == 47) || (b == 0)
+
+-- a name in a folder: it isn't empty, has no slash and no NUL, and is neither `.` nor `..`
+abbrev pub is_name : List ℕ → Bool
+is_name text =
+    not (bytes_eq text [] || bytes_eq text (codes ".") || bytes_eq text (codes "..")) && is_none (position is_separator text)
+
+-- the folder of unfinished files, or a path below it
+abbrev pub is_unfinished : List ℕ → Bool
+is_unfinished path = bytes_eq path (codes ".medusa-tmp") || is_under (codes ".medusa-tmp/") path
+
+-- names joined by slashes, and not in the folder of unfinished files
+abbrev pub is_object_path : List ℕ → Bool
+is_object_path path = list_all is_name (parts path) && not (is_unfinished path)
