@@ -1,3 +1,4 @@
+pub mod Base64Lemmas
 pub mod Cuts
 pub mod Folders
 pub mod Parts

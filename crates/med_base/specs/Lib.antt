@@ -1,5 +1,6 @@
 pub mod Content
 pub mod Cut
+pub mod Digest
 pub mod Fingerprint
 pub mod Key
 pub mod KeyOrder

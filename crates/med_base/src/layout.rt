@@ -58,6 +58,13 @@ impl Layout {
         }
     }
 
+    // What stands before each path.
+    pub(crate) fn before(&self) -> &str
+        ensures { result.now ≡ self.now }
+    {
+        self.before.as_str()
+    }
+
     /// An equal layout.
     pub fn copy(&self, alloc: Global) -> Result<Layout, NoMemory>
         ensures { IfOk result (λ layout. layout ≡ self.now) }

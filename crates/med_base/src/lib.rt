@@ -5,10 +5,13 @@
 //! Read `specs/Names.antt` and `specs/Layout.antt` first.
 #![tactic(auto)]
 
+mod builders;
 mod component;
 mod cut;
+mod digest;
 mod fingerprint;
 mod key;
+mod kinds;
 mod layout;
 mod memory;
 mod names;
@@ -17,8 +20,10 @@ mod prefix;
 
 pub use component::Component;
 pub use cut::cut_at;
+pub use digest::{BadDigest, read_md5};
 pub use fingerprint::{Fingerprint, md5_text};
 pub use key::FileKey;
+pub use kinds::{IndexKind, LatestKind};
 pub use layout::{Layout, MetaKind};
 pub use memory::NoMemory;
 pub use names::{BackupName, Fqdn, NameError};
