@@ -1,5 +1,13 @@
 pub mod Base64Lemmas
 pub mod Cuts
+pub mod EntryLemmas
 pub mod Folders
+pub mod KindsLaw
+pub mod KindsMade
+pub mod KindsTold
+pub mod MetaLemmas
+pub mod NameLemmas
 pub mod Parts
 pub mod Paths
+pub mod PieceLemmas
+pub mod Slashes

@@ -1,9 +1,13 @@
+pub mod Classify
 pub mod Content
 pub mod Cut
 pub mod Digest
+pub mod Entries
 pub mod Fingerprint
 pub mod Key
 pub mod KeyOrder
+pub mod KindOf
+pub mod Kinds
 pub mod Layout
 pub mod Names
 pub mod Part

@@ -2,10 +2,17 @@
 ghost use Rattle.std.specs.Prelude.{◌≡◌, None, IfOk, IfErr};
 ghost use Rattle.med_base.specs.Names.{component_fault, Blames};
 
-use crate::names::{accepted, is_dots};
+use crate::names::{accepted, fault_in, is_dots};
 use crate::{NameError, NoMemory};
 use std::alloc::Global;
 use std::marker::Model;
+
+/// The place at which a text first fails to be a component.
+pub(crate) fn fault_in_component(text: &[u8]) -> Option<usize>
+    ensures { result ≡ component_fault text.now }
+{
+    fault_in(text, is_dots(text), 255)
+}
 
 /// A part of a path: 1 to 255 bytes of UTF-8, none of them `/`, NUL or line feed, and neither `.`
 /// nor `..`.
@@ -32,7 +39,7 @@ impl Component {
         ensures fits { IfOk result (λ name. component_fault name ≡ None) }
         ensures err { IfErr result (Blames (component_fault text.now)) }
     {
-        let text = accepted(alloc, text, is_dots(text.as_bytes()), 255)?;
+        let text = accepted(alloc, text, fault_in_component(text.as_bytes()))?;
         Ok(Component { text })
     }
 

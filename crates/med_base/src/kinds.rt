@@ -1,4 +1,5 @@
 // What the paths of a bucket are.
+use crate::MetaKind;
 
 /// The entries that an index has of a backup: copies of its token map and its manifest, and empty
 /// objects that tell when it started, when it finished, and that it is differential. Times are in
@@ -17,4 +18,48 @@ pub enum IndexKind {
 pub enum LatestKind {
     Name,
     Tokenmap,
+}
+
+/// What a path is, with the names in it.
+#[derive(Clone, Copy, Debug, PartialEq, Eq)]
+pub enum PathKind<'a> {
+    /// A file that the backups of a node share.
+    Shared {
+        owner: &'a str,
+        keyspace: &'a str,
+        table: &'a str,
+        file: &'a str,
+    },
+    /// A file that is one backup's own.
+    Own {
+        owner: &'a str,
+        backup: &'a str,
+        keyspace: &'a str,
+        table: &'a str,
+        file: &'a str,
+    },
+    /// An object that tells of a backup.
+    Meta {
+        owner: &'a str,
+        backup: &'a str,
+        kind: MetaKind,
+    },
+    /// Anything else in the folder of a node, with the backup in whose folder it lies.
+    Stray {
+        owner: &'a str,
+        backup: Option<&'a str>,
+    },
+    /// An entry of the index.
+    IndexEntry {
+        owner: &'a str,
+        backup: &'a str,
+        kind: IndexKind,
+    },
+    /// An object that tells of the latest backup of a node.
+    Latest {
+        owner: &'a str,
+        kind: LatestKind,
+    },
+    /// Any other path. It belongs to no node.
+    Other,
 }

@@ -6,16 +6,20 @@
 #![tactic(auto)]
 
 mod builders;
+mod classify;
 mod component;
 mod cut;
 mod digest;
+mod entries;
 mod fingerprint;
 mod key;
 mod kinds;
+mod laws;
 mod layout;
 mod memory;
 mod names;
 mod path;
+mod pieces;
 mod prefix;
 
 pub use component::Component;
@@ -23,7 +27,8 @@ pub use cut::cut_at;
 pub use digest::{BadDigest, read_md5};
 pub use fingerprint::{Fingerprint, md5_text};
 pub use key::FileKey;
-pub use kinds::{IndexKind, LatestKind};
+pub use kinds::{IndexKind, LatestKind, PathKind};
+pub use laws::builders_and_kinds;
 pub use layout::{Layout, MetaKind};
 pub use memory::NoMemory;
 pub use names::{BackupName, Fqdn, NameError};

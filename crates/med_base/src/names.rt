@@ -45,18 +45,13 @@ pub(crate) fn fault_in(text: &[u8], is_refused: bool, limit: usize) -> Option<us
     }
 }
 
-/// A copy of a text that breaks no rule of names.
-pub(crate) fn accepted(
-    alloc: Global,
-    text: &str,
-    is_refused: bool,
-    limit: usize,
-) -> Result<String, NameError>
+/// A copy of a text that has no fault.
+pub(crate) fn accepted(alloc: Global, text: &str, fault: Option<usize>) -> Result<String, NameError>
     ensures ok { IfOk result (λ copy. string_bytes copy ≡ text.now) }
-    ensures fits { OnOk result (first_fault is_refused limit text.now ≡ None) }
-    ensures err { IfErr result (Blames (first_fault is_refused limit text.now)) }
+    ensures fits { OnOk result (fault ≡ None) }
+    ensures err { IfErr result (Blames fault) }
 {
-    if let Some(at) = fault_in(text.as_bytes(), is_refused, limit) {
+    if let Some(at) = fault {
         return Err(NameError::BadName { at });
     }
     match String::from_str(alloc, text) {
@@ -80,6 +75,25 @@ pub(crate) fn is_dots(text: &[u8]) -> bool
         (codes "..")) }
 {
     text.is_empty() || text == b".".as_slice() || text == b"..".as_slice()
+}
+
+/// The place at which a text first fails to be the name of a node.
+pub(crate) fn fault_in_fqdn(text: &str) -> Option<usize>
+    ensures { result ≡ fqdn_fault text.now }
+{
+    let is_refused = text.is_empty() || begins_with_a_dot(text.as_bytes()) || text == "index";
+    fault_in(text.as_bytes(), is_refused, 200)
+}
+
+/// The place at which a text first fails to be the name of a backup.
+pub(crate) fn fault_in_backup(text: &str) -> Option<usize>
+    ensures { result ≡ backup_fault text.now }
+{
+    let is_refused = text.is_empty()
+        || begins_with_a_dot(text.as_bytes())
+        || text == "data"
+        || text == "meta";
+    fault_in(text.as_bytes(), is_refused, 200)
 }
 
 /// The name of a node: a component of at most 200 bytes that begins with no dot and isn't `index`.
@@ -106,8 +120,7 @@ impl Fqdn {
         ensures fits { IfOk result (λ name. fqdn_fault name ≡ None) }
         ensures err { IfErr result (Blames (fqdn_fault text.now)) }
     {
-        let is_refused = text.is_empty() || begins_with_a_dot(text.as_bytes()) || text == "index";
-        let text = accepted(alloc, text, is_refused, 200)?;
+        let text = accepted(alloc, text, fault_in_fqdn(text))?;
         Ok(Fqdn { text })
     }
 
@@ -152,11 +165,7 @@ impl BackupName {
         ensures fits { IfOk result (λ name. backup_fault name ≡ None) }
         ensures err { IfErr result (Blames (backup_fault text.now)) }
     {
-        let is_refused = text.is_empty()
-            || begins_with_a_dot(text.as_bytes())
-            || text == "data"
-            || text == "meta";
-        let text = accepted(alloc, text, is_refused, 200)?;
+        let text = accepted(alloc, text, fault_in_backup(text))?;
         Ok(BackupName { text })
     }
 
