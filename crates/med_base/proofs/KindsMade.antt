@@ -147,7 +147,7 @@ latest_told before f kind h =
     ∙ ap (λ o. unwrap_or o Other) (cond_true (is_none (fqdn_fault f)) (option_map (Latest f) (latest_found name)) None (ap is_none h)
     ∙ ap (option_map (Latest f)) (latest_made kind))
 
-same_inside : (x y : List ℕ) → ◌≡◌ {A = Option (List ℕ)} (Some x) (Some y) → x ≡ y
+pub same_inside : (x y : List ℕ) → ◌≡◌ {A = Option (List ℕ)} (Some x) (Some y) → x ≡ y
 same_inside x y e = cc
 
 pub built_is_told : BuiltIsTold

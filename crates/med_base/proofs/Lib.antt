@@ -7,6 +7,7 @@ pub mod KindsMade
 pub mod KindsTold
 pub mod MetaLemmas
 pub mod NameLemmas
+pub mod Owners
 pub mod Parts
 pub mod Paths
 pub mod PieceLemmas

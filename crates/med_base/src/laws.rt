@@ -1,10 +1,13 @@
 // What the builders and `classify` say of each other.
 ghost use Rattle.med_base.specs.KindOf.{KindsAreTold, BuiltIsTold, PathsAreApart};
+ghost use Rattle.med_base.specs.Part.{OwnersAreTold};
 
 /// A law: each path is of exactly one kind, `kind_of` tells it, and the kind of the path that a
 /// builder gives is what it was built from. So two builders, or two values, never give one path.
+/// The kind tells the owner too: the node in whose folder the path lies, or which the entry names.
 pub fn builders_and_kinds()
     ensures told { KindsAreTold }
     ensures built { BuiltIsTold }
     ensures apart { PathsAreApart }
+    ensures owners { OwnersAreTold }
 {}

@@ -35,4 +35,10 @@ pub use names::{BackupName, Fqdn, NameError};
 pub use path::ObjPath;
 
 #[cfg(test)]
+mod builder_tests;
+#[cfg(test)]
+mod digest_tests;
+#[cfg(test)]
+mod layout_tests;
+#[cfg(test)]
 mod tests;
