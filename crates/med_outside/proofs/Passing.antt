@@ -1,5 +1,5 @@
 -- Calls in a row: what they change together.
-use Rattle.std.proofs.Common.{◌≡◌, ◌⊎◌, inl, inr, ◌≤◌, ℕ, List, [], ◌∷◌, ◌++◌, Option, Some, None, refl, sym, ap, ◌∙◌, arith, append_assoc}
+use Rattle.std.proofs.Common.{◌≡◌, inl, inr, ℕ, List, [], ◌∷◌, ◌++◌, Option, Some, None, refl, sym, ap, ◌∙◌, arith, append_assoc}
 use Rattle.med_base.specs.Content.{Content}
 use Rattle.med_outside.specs.Effects.{Effect, made, applied, after_all, IsMoment}
 use Rattle.med_outside.specs.State.{State, Passes, Moves, with_layout}
