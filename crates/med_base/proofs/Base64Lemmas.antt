@@ -24,7 +24,8 @@ error_of e text =
 
 slice_of : (e : GeneralPurpose) (text : List ℕ) (room : ℕ)
     → decoded_estimate (length text) ≤ room
-    → decode_slice_of e text room ≡ or_error (error_of e text) (Ok (length (decoded_bytes_of e text)))
+    → decode_slice_of e text room ≡ or_error (error_of e text)
+    (Ok (length (decoded_bytes_of e text)))
 slice_of e text room fits =
     slice_result_room e.decode_table text e.padding.value e.config.decode_allow_trailing_bits
     e.config.decode_padding_mode room fits
@@ -35,7 +36,8 @@ slice_reads : (e : GeneralPurpose) (text : List ℕ) (room n : ℕ) → IsStrict
     → (text ≡ encode_of e (decoded_bytes_of e text)) × (length (decoded_bytes_of e text) ≡ n)
 slice_reads e text room n strict bytes back fits ok =
     let out = decoded_bytes_of e text in
-    let parts = or_error_ok (error_of e text) (length out) n (sym (slice_of e text room fits) ∙ ok) in
+    let parts = or_error_ok (error_of e text) (length out) n
+    (sym (slice_of e text room fits) ∙ ok) in
     let decodes : decode_of e text ≡ Ok out = ap (λ x. decode_outcome x out) parts.0 in
     ((decode_of_iff e text out strict bytes back).0 decodes, parts.1)
 
@@ -69,7 +71,8 @@ all_read e text given md5 r strict value same bytes len sixteen fits is =
     ∙ ap (λ (n : ℕ). Ok n) sixteen
 
 -- what was read from 24 characters is what encodes to them
-pub read_whole : (e : GeneralPurpose) (text given room filled : List ℕ) (r : Result ℕ DecodeSliceError)
+pub read_whole : (e : GeneralPurpose) (text given room filled : List ℕ)
+    (r : Result ℕ DecodeSliceError)
     → IsStrict e → r ≡ decode_slice_of e given 18 → given ≡ text → IsBytes text
     → length text ≡ 24 → r ≡ Ok 16
     → filled ≡ decoded_bytes_of e given ++ drop (length (decoded_bytes_of e given)) room
@@ -78,7 +81,9 @@ read_whole e text given room filled r strict value same bytes len ok written bac
     let out = decoded_bytes_of e given in
     let same_out : out ≡ decoded_bytes_of e text = ap (λ (x : List ℕ). decoded_bytes_of e x) same in
     let same_slice = ap (λ x. decode_slice_of e x 18) (sym same) in
-    let h = slice_reads e text 18 16 strict bytes (subst (λ (x : List ℕ). IsBytes x) same_out back) (omega arith) (same_slice ∙ sym value ∙ ok) in
+    let h = slice_reads e text 18 16 strict bytes (subst (λ (x : List ℕ). IsBytes x) same_out back)
+    (omega arith) (same_slice ∙ sym value ∙ ok) in
     let sixteen : length out ≡ 16 = ap (λ (x : List ℕ). length x) same_out ∙ h.1 in
-    let front : take 16 filled ≡ out = ap (take 16) written ∙ take_at out (drop (length out) room) 16 sixteen in
+    let front : take 16 filled ≡ out = ap (take 16) written
+    ∙ take_at out (drop (length out) room) 16 sixteen in
     h.0 ∙ ap (encode_of e) (sym (front ∙ same_out))

@@ -16,7 +16,8 @@ use Rattle.med_base.proofs.NameLemmas.{none_by_test, fqdn_no_slash, backup_no_sl
 use Rattle.med_base.proofs.KindsMade.{built_is_told, entry_if_fqdn, entry_flat, latest_flat}
 use Rattle.med_base.proofs.KindsTold.{pair_is, Told, by_cond, by_kind, no_builder, folder_flat, outside, node_told}
 
-some_if : {X : Type 0} (b : Bool) (o : Option X) (v : X) → cond b o None ≡ Some v → (b ≡ true) × (o ≡ Some v)
+some_if : {X : Type 0} (b : Bool) (o : Option X) (v : X) → cond b o None ≡ Some v → (b ≡ true)
+    × (o ≡ Some v)
 some_if true o v e = (refl, e)
 some_if false o v e = absurd (cc)
 
@@ -39,31 +40,42 @@ module _ (before path rest : List ℕ) (is : path ≡ before ++ (codes "index" +
       → (k : Kind) → option_and_then entry_kind (pair_of (parts text)) ≡ Some k → Told before path k
   entry_told text stands k found =
       let (p, pair, made) = then_is entry_kind (pair_of (parts text)) k found in
-      let named = some_if (is_none (backup_fault p.0)) (option_and_then (entry_if_fqdn p.0) (entry_of p.1)) k made in
+      let named = some_if (is_none (backup_fault p.0))
+      (option_and_then (entry_if_fqdn p.0) (entry_of p.1)) k made in
       let (e, read, kept) = then_is (entry_if_fqdn p.0) (entry_of p.1) k named.1 in
       let node = some_if (is_none (fqdn_fault e.0)) (Some (Entry e.0 p.0 e.1)) k kept in
       let entry = entry_is p.1 e read in
-      let same : Entry e.0 p.0 e.1 ≡ k = let n : ◌≡◌ {A = Option Kind} (Some (Entry e.0 p.0 e.1)) (Some k) = node.1 in cc in
-      let line = ap (λ t. codes "backup_index" ++ 47 ∷ t) (pair_is text p pair ∙ ap (λ t. p.0 ++ 47 ∷ t) entry.0) in
+      let same : Entry e.0 p.0 e.1 ≡ k = let n : ◌≡◌ {A = Option Kind} (Some (Entry e.0 p.0 e.1))
+      (Some k) = node.1 in cc in
+      let line = ap (λ t. codes "backup_index" ++ 47 ∷ t)
+      (pair_is text p pair ∙ ap (λ t. p.0 ++ 47 ∷ t) entry.0) in
       subst (Told before path) same (λ told. record {
-        valid = (none_by_test (fqdn_fault e.0) node.0, none_by_test (backup_fault p.0) named.0, entry.1);
+        valid = (
+          none_by_test (fqdn_fault e.0) node.0,
+          none_by_test (backup_fault p.0) named.0,
+          entry.1,
+        );
         built = ap Some (entry_flat before e.0 p.0 e.1 ∙ stands_at _ _ stands line);
       })
 
   latest_told : (text : List ℕ) → rest ≡ codes "latest_backup" ++ 47 ∷ text
-      → (k : Kind) → option_and_then latest_kind (pair_of (parts text)) ≡ Some k → Told before path k
+      → (k : Kind) → option_and_then latest_kind (pair_of (parts text)) ≡ Some k
+      → Told before path k
   latest_told text stands k found =
       let (p, pair, made) = then_is latest_kind (pair_of (parts text)) k found in
-      let node = some_if (is_none (fqdn_fault p.0)) (option_map (Latest p.0) (latest_found p.1)) k made in
+      let node = some_if (is_none (fqdn_fault p.0)) (option_map (Latest p.0) (latest_found p.1)) k
+      made in
       let (kind, read, same) = map_is (Latest p.0) (latest_found p.1) k node.1 in
-      let line = ap (λ t. codes "latest_backup" ++ 47 ∷ t) (pair_is text p pair ∙ ap (λ t. p.0 ++ 47 ∷ t) (latest_is p.1 kind read)) in
+      let line = ap (λ t. codes "latest_backup" ++ 47 ∷ t)
+      (pair_is text p pair ∙ ap (λ t. p.0 ++ 47 ∷ t) (latest_is p.1 kind read)) in
       subst (Told before path) same (λ told. record {
         valid = none_by_test (fqdn_fault p.0) node.0;
         built = ap Some (latest_flat before p.0 kind ∙ stands_at _ _ stands line);
       })
 
   index_alone : (part : List ℕ) → index_kind (part ∷ []) ≡ Other
-  index_alone part = go (bytes_eq part (codes "backup_index")) (bytes_eq part (codes "latest_backup"))
+  index_alone part = go (bytes_eq part (codes "backup_index"))
+      (bytes_eq part (codes "latest_backup"))
     where
       go : (a b : Bool) → cond a Other (cond b Other Other) ≡ Other
       go true b = refl
@@ -72,15 +84,20 @@ module _ (before path rest : List ℕ) (is : path ≡ before ++ (codes "index" +
 
   index_told : Told before path (index_kind (parts rest))
   index_told = elim (cut_at_slash rest) [
-    | whole h ↦ subst (Told before path) (sym (ap index_kind (parts_whole rest h) ∙ index_alone rest)) index_other
+    | whole h ↦ subst (Told before path)
+        (sym (ap index_kind (parts_whole rest h) ∙ index_alone rest)) index_other
     | around part text h e ↦
         subst (Told before path) (sym (ap index_kind (ap parts e ∙ parts_around part text h)))
         (by_cond (Told before path) (bytes_eq part (codes "backup_index")) _ _
-        (λ word. let at = e ∙ ap (λ w. w ++ 47 ∷ text) ((bytes_eq-Decides part (codes "backup_index")).0 word) in
-        by_kind (Told before path) (option_and_then entry_kind (pair_of (parts text))) Other (entry_told text at) index_other)
+        (λ word. let at = e ∙ ap (λ w. w ++ 47 ∷ text)
+        ((bytes_eq-Decides part (codes "backup_index")).0 word) in
+        by_kind (Told before path) (option_and_then entry_kind (pair_of (parts text))) Other
+        (entry_told text at) index_other)
         (λ _. by_cond (Told before path) (bytes_eq part (codes "latest_backup")) _ _
-        (λ word. let at = e ∙ ap (λ w. w ++ 47 ∷ text) ((bytes_eq-Decides part (codes "latest_backup")).0 word) in
-        by_kind (Told before path) (option_and_then latest_kind (pair_of (parts text))) Other (latest_told text at) index_other)
+        (λ word. let at = e ∙ ap (λ w. w ++ 47 ∷ text)
+        ((bytes_eq-Decides part (codes "latest_backup")).0 word) in
+        by_kind (Told before path) (option_and_then latest_kind (pair_of (parts text))) Other
+        (latest_told text at) index_other)
         (λ _. index_other)))
   ]
 
@@ -111,8 +128,11 @@ module _ (before path : List ℕ) where
         let at = is ∙ ap (λ t. before ++ t) e in
         subst (Told before path) (sym (ap kind_below (ap parts e ∙ parts_around part rest h)))
         (by_cond (Told before path) (bytes_eq part (codes "index")) _ _
-        (λ word. index_told before path rest (at ∙ ap (λ w. before ++ (w ++ 47 ∷ rest)) ((bytes_eq-Decides part (codes "index")).0 word)))
-        (λ _. by_cond (Told before path) (is_none (fqdn_fault part)) (node_kind part (parts rest)) Other
+        (λ word. index_told before path rest
+        (at ∙ ap (λ w. before ++ (w ++ 47 ∷ rest))
+        ((bytes_eq-Decides part (codes "index")).0 word)))
+        (λ _. by_cond (Told before path) (is_none (fqdn_fault part)) (node_kind part (parts rest))
+        Other
         (λ yes. node_told before path part rest (none_by_test (fqdn_fault part) yes) at)
         (λ bad. other_below part rest h at bad)))
   ]
@@ -121,7 +141,8 @@ module _ (before path : List ℕ) where
       → Told before path (unwrap_or (option_map (λ text. kind_below (parts text)) o) Other)
   told_behind None is told = record {
     outside = λ f rest valid under.
-        let found : behind before path ≡ Some (f ++ 47 ∷ rest) = ap (behind before) (under ∙ folder_flat before f rest) ∙ behind_made before (f ++ 47 ∷ rest) in
+        let found : behind before path ≡ Some (f ++ 47 ∷ rest) = ap (behind before)
+        (under ∙ folder_flat before f rest) ∙ behind_made before (f ++ 47 ∷ rest) in
         let bad : None ≡ Some (f ++ 47 ∷ rest) = sym is ∙ found in
         absurd (cc);
     unbuilt = no_builder before path Other refl told;
@@ -133,20 +154,26 @@ module _ (before path : List ℕ) where
 
 -- ---- and no other
 
-backup_same : (rest : List ℕ) (n m : Option (List ℕ)) → IsInBackup rest n → IsInBackup rest m → n ≡ m
+backup_same : (rest : List ℕ) (n m : Option (List ℕ)) → IsInBackup rest n → IsInBackup rest m
+    → n ≡ m
 backup_same rest None None a b = refl
 backup_same rest None (Some m) a b = absurd (a m b.1.0 b.0 b.1.1)
 backup_same rest (Some n) None a b = absurd (b n a.1.0 a.0 a.1.1)
 backup_same rest (Some n) (Some m) a b =
-    ap Some (same_parts n m a.1.0 b.1.0 (backup_no_slash n a.0) (backup_no_slash m b.0) (sym a.1.1 ∙ b.1.1)).0
+    ap Some (same_parts n m a.1.0 b.1.0 (backup_no_slash n a.0) (backup_no_slash m b.0)
+    (sym a.1.1 ∙ b.1.1)).0
 
-stray_same : (before path f g : List ℕ) (n m : Option (List ℕ)) → IsStray before path f n → IsStray before path g m → Stray f n ≡ Stray g m
+stray_same : (before path f g : List ℕ) (n m : Option (List ℕ)) → IsStray before path f n
+    → IsStray before path g m → Stray f n ≡ Stray g m
 stray_same before path f g n m a b =
     let flat_a = folder_flat before f a.rest in
     let flat_b = folder_flat before g b.rest in
-    let texts = same_rest before (f ++ 47 ∷ a.rest) (g ++ 47 ∷ b.rest) (sym flat_a ∙ sym a.under ∙ b.under ∙ flat_b) in
-    let same = same_parts f g a.rest b.rest (fqdn_no_slash f a.node) (fqdn_no_slash g b.node) texts in
-    ap₂ Stray same.0 (backup_same b.rest n m (subst (λ (r : List ℕ). IsInBackup r n) same.1 a.backup) b.backup)
+    let texts = same_rest before (f ++ 47 ∷ a.rest) (g ++ 47 ∷ b.rest)
+    (sym flat_a ∙ sym a.under ∙ b.under ∙ flat_b) in
+    let same = same_parts f g a.rest b.rest (fqdn_no_slash f a.node) (fqdn_no_slash g b.node)
+    texts in
+    ap₂ Stray same.0 (backup_same b.rest n m
+    (subst (λ (r : List ℕ). IsInBackup r n) same.1 a.backup) b.backup)
 
 one_stray : (before path f : List ℕ) (n : Option (List ℕ)) → IsStray before path f n
     → (k : Kind) → IsOfKind before path k → k ≡ Stray f n
@@ -158,7 +185,8 @@ one_stray before path f n s (Latest g kind) b = absurd (s.unbuilt (Latest g kind
 one_stray before path f n s (Stray g m) t = stray_same before path g f m n t s
 one_stray before path f n s Other o = absurd (o.outside f s.rest s.node s.under)
 
-one_other : (before path : List ℕ) → IsOther before path → (k : Kind) → IsOfKind before path k → k ≡ Other
+one_other : (before path : List ℕ) → IsOther before path → (k : Kind) → IsOfKind before path k
+    → k ≡ Other
 one_other before path o (Shared g key) b = absurd (o.unbuilt (Shared g key) b)
 one_other before path o (Own g m key) b = absurd (o.unbuilt (Own g m key) b)
 one_other before path o (Meta g m kind) b = absurd (o.unbuilt (Meta g m kind) b)
@@ -168,8 +196,10 @@ one_other before path o (Stray g m) t = absurd (o.outside g t.rest t.node t.unde
 one_other before path o Other t = refl
 
 only_kind : (before path : List ℕ) (k : Kind) → IsOfKind before path k → kind_of before path ≡ k
-only_kind before path (Stray f n) h = one_stray before path f n h (kind_of before path) (kind_told before path)
-only_kind before path Other h = one_other before path h (kind_of before path) (kind_told before path)
+only_kind before path (Stray f n) h = one_stray before path f n h (kind_of before path)
+    (kind_told before path)
+only_kind before path Other h = one_other before path h (kind_of before path)
+    (kind_told before path)
 only_kind before path (Shared f key) h = built_is_told before path (Shared f key) h
 only_kind before path (Own f n key) h = built_is_told before path (Own f n key) h
 only_kind before path (Meta f n kind) h = built_is_told before path (Meta f n kind) h
@@ -177,7 +207,9 @@ only_kind before path (Entry f n kind) h = built_is_told before path (Entry f n 
 only_kind before path (Latest f kind) h = built_is_told before path (Latest f kind) h
 
 pub kinds_are_told : KindsAreTold
-kinds_are_told before path k = (λ e. subst (IsOfKind before path) e (kind_told before path), only_kind before path k)
+kinds_are_told before path k =
+    (λ e. subst (IsOfKind before path) e (kind_told before path), only_kind before path k)
 
 pub paths_are_apart : PathsAreApart
-paths_are_apart before path j k a b = sym (built_is_told before path j a) ∙ built_is_told before path k b
+paths_are_apart before path j k a b = sym (built_is_told before path j a)
+    ∙ built_is_told before path k b

@@ -14,7 +14,8 @@ use Rattle.med_base.proofs.Slashes.{no_slash_by_test, slash_within, whole, aroun
 
 -- ---- texts with a slash
 
-unequal_with_slash : (t name x rest : List ℕ) → t ≡ x ++ 47 ∷ rest → HasNoSlash name → bytes_eq t name ≡ false
+unequal_with_slash : (t name x rest : List ℕ) → t ≡ x ++ 47 ∷ rest → HasNoSlash name
+    → bytes_eq t name ≡ false
 unequal_with_slash t name x rest is plain = go (bytes_eq t name) refl
   where
     go : (b : Bool) → bytes_eq t name ≡ b → b ≡ false
@@ -25,7 +26,8 @@ unequal_with_slash t name x rest is plain = go (bytes_eq t name) refl
 
 -- ---- the first that passes
 
-pub find_none : {X : Type 0} (p : X → Bool) (xs : List X) → AllByRecursion (λ x. p x ≡ false) xs → find p xs ≡ None
+pub find_none : {X : Type 0} (p : X → Bool) (xs : List X) → AllByRecursion (λ x. p x ≡ false) xs
+    → find p xs ≡ None
 find_none p [] h = refl
 find_none p (x ∷ xs) h = ap (λ b. cond b (Some x) (find p xs)) h.0 ∙ find_none p xs h.1
 
@@ -33,7 +35,8 @@ pub find_is : {X : Type 0} (p : X → Bool) (xs : List X) (x : X) → find p xs 
 find_is p [] x e = absurd (cc)
 find_is p (y ∷ ys) x e = go (p y) refl (find_is p ys x) e
   where
-    go : (b : Bool) → p y ≡ b → (find p ys ≡ Some x → p x ≡ true) → cond b (Some y) (find p ys) ≡ Some x → p x ≡ true
+    go : (b : Bool) → p y ≡ b → (find p ys ≡ Some x → p x ≡ true)
+        → cond b (Some y) (find p ys) ≡ Some x → p x ≡ true
     go true is more k = let same : y ≡ x = cc in sym (ap p same) ∙ is
     go false is more k = more k
 
@@ -56,11 +59,15 @@ pub meta_of_parts : (t : List ℕ) → meta_of (parts t) ≡ meta_found t
 meta_of_parts t = elim (cut_at_slash t) [
   | whole h ↦ ap meta_of (parts_whole t h)
   | around x rest h is ↦
-      let unequal = λ (kind : MetaKind). unequal_with_slash t (meta_file kind) x rest is (meta_no_slash kind) in
+      let unequal = λ (kind : MetaKind). unequal_with_slash t (meta_file kind) x rest is
+      (meta_no_slash kind) in
       ap (λ u. meta_of (parts u)) is
       ∙ ap meta_of (parts_around x rest h)
       ∙ meta_of_more x rest
-      ∙ sym (find_none (λ (kind : MetaKind). bytes_eq t (meta_file kind)) all_meta (unequal meta.Schema, (unequal meta.Differential, (unequal meta.Tokenmap, (unequal meta.Manifest, tt)))))
+      ∙ sym (find_none (λ (kind : MetaKind). bytes_eq t (meta_file kind)) all_meta (
+        unequal meta.Schema,
+        (unequal meta.Differential, (unequal meta.Tokenmap, (unequal meta.Manifest, tt))),
+      ))
 ]
 
 pub meta_made : (kind : MetaKind) → meta_found (meta_file kind) ≡ Some kind
@@ -69,11 +76,14 @@ meta_made meta.Differential = refl
 meta_made meta.Tokenmap = refl
 meta_made meta.Manifest = refl
 
-pub meta_is : (name : List ℕ) (kind : MetaKind) → meta_found name ≡ Some kind → name ≡ meta_file kind
-meta_is name kind e = (bytes_eq-Decides name (meta_file kind)).0 (find_is (λ (kind : MetaKind). bytes_eq name (meta_file kind)) all_meta kind e)
+pub meta_is : (name : List ℕ) (kind : MetaKind) → meta_found name ≡ Some kind
+    → name ≡ meta_file kind
+meta_is name kind e = (bytes_eq-Decides name (meta_file kind)).0
+    (find_is (λ (kind : MetaKind). bytes_eq name (meta_file kind)) all_meta kind e)
 
 -- a name that is none of the four
-pub meta_none : (name : List ℕ) → ((kind : MetaKind) → name ≡ meta_file kind → ⊥) → meta_of (parts name) ≡ None
+pub meta_none : (name : List ℕ) → ((kind : MetaKind) → name ≡ meta_file kind → ⊥)
+    → meta_of (parts name) ≡ None
 meta_none name not = meta_of_parts name ∙ go (meta_found name) refl
   where
     go : (o : Option MetaKind) → meta_found name ≡ o → o ≡ None
@@ -93,5 +103,7 @@ pub latest_made : (kind : LatestKind) → latest_found (latest_file kind) ≡ So
 latest_made latest.Name = refl
 latest_made latest.Tokenmap = refl
 
-pub latest_is : (name : List ℕ) (kind : LatestKind) → latest_found name ≡ Some kind → name ≡ latest_file kind
-latest_is name kind e = (bytes_eq-Decides name (latest_file kind)).0 (find_is (λ (kind : LatestKind). bytes_eq name (latest_file kind)) all_latest kind e)
+pub latest_is : (name : List ℕ) (kind : LatestKind) → latest_found name ≡ Some kind
+    → name ≡ latest_file kind
+latest_is name kind e = (bytes_eq-Decides name (latest_file kind)).0
+    (find_is (λ (kind : LatestKind). bytes_eq name (latest_file kind)) all_latest kind e)

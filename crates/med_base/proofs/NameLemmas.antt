@@ -8,7 +8,8 @@ pub or_false : (a b : Bool) → (a || b) ≡ false → (a ≡ false) × (b ≡ f
 or_false true b e = absurd (cc)
 or_false false b e = (refl, e)
 
-not_refused : (is_refused : Bool) (limit : ℕ) (text : List ℕ) → first_fault is_refused limit text ≡ None → is_refused ≡ false
+not_refused : (is_refused : Bool) (limit : ℕ) (text : List ℕ)
+    → first_fault is_refused limit text ≡ None → is_refused ≡ false
 not_refused true limit text e = absurd (cc)
 not_refused false limit text e = refl
 
@@ -17,15 +18,19 @@ none_by_test None e = refl
 none_by_test (Some n) e = absurd (cc)
 
 pub fqdn_no_slash : (f : List ℕ) → IsFqdn f → HasNoSlash f
-fqdn_no_slash f ok = fault_no_slash (bytes_eq f [] || begins_with_dot f || bytes_eq f (codes "index")) 200 f ok
+fqdn_no_slash f ok = fault_no_slash
+    (bytes_eq f [] || begins_with_dot f || bytes_eq f (codes "index")) 200 f ok
 
 pub fqdn_not_index : (f : List ℕ) → IsFqdn f → bytes_eq f (codes "index") ≡ false
 fqdn_not_index f ok =
-    let refused = not_refused (bytes_eq f [] || begins_with_dot f || bytes_eq f (codes "index")) 200 f ok in
+    let refused = not_refused (bytes_eq f [] || begins_with_dot f || bytes_eq f (codes "index")) 200
+    f ok in
     (or_false (bytes_eq f [] || begins_with_dot f) (bytes_eq f (codes "index")) refused).1
 
 pub backup_no_slash : (n : List ℕ) → IsBackupName n → HasNoSlash n
-backup_no_slash n ok = fault_no_slash (bytes_eq n [] || begins_with_dot n || bytes_eq n (codes "data") || bytes_eq n (codes "meta")) 200 n ok
+backup_no_slash n ok = fault_no_slash
+    (bytes_eq n [] || begins_with_dot n || bytes_eq n (codes "data") || bytes_eq n (codes "meta"))
+    200 n ok
 
 pub backup_not_data : (n : List ℕ) → IsBackupName n → bytes_eq n (codes "data") ≡ false
 backup_not_data n ok =

@@ -35,7 +35,8 @@ node_owner f p ps =
     (λ _. by_cond (IsOf f) (is_none (backup_fault p)) (backup_kind f p ps) (Stray f None)
     (λ _. backup_owner f p ps) (λ _. refl))
 
-owner_under : (before f rest : List ℕ) → IsFqdn f → owner_of before (node_folder before f ++ rest) ≡ Some f
+owner_under : (before f rest : List ℕ) → IsFqdn f
+    → owner_of before (node_folder before f ++ rest) ≡ Some f
 owner_under before f rest valid =
     let h = has_parts rest in
     ap (owner_of before) (folder_flat before f rest)
@@ -44,31 +45,48 @@ owner_under before f rest valid =
     ∙ node_owner f h.first h.others
 
 owner_back : (before path f : List ℕ) → BelongsTo before path f → owner_of before path ≡ Some f
-owner_back before path f (lies_under rest valid under) = ap (owner_of before) under ∙ owner_under before f rest valid
-owner_back before path f (is_entry n kind built) = ap owner_in (built_is_told before path (Entry f n kind) built)
-owner_back before path f (is_latest kind built) = ap owner_in (built_is_told before path (Latest f kind) built)
+owner_back before path f (lies_under rest valid under) = ap (owner_of before) under
+    ∙ owner_under before f rest valid
+owner_back before path f (is_entry n kind built) = ap owner_in
+    (built_is_told before path (Entry f n kind) built)
+owner_back before path f (is_latest kind built) = ap owner_in
+    (built_is_told before path (Latest f kind) built)
 
 -- ---- and what has an owner belongs to it
 
-under : (before path f text rest : List ℕ) → IsFqdn f → ◌≡◌ {A = Option (List ℕ)} (Some text) (Some path)
+under : (before path f text rest : List ℕ) → IsFqdn f
+    → ◌≡◌ {A = Option (List ℕ)} (Some text) (Some path)
     → text ≡ before ++ (f ++ 47 ∷ rest) → BelongsTo before path f
 under before path f text rest valid built flat =
-    lies_under rest valid (sym (same_inside text path built) ∙ flat ∙ sym (folder_flat before f rest))
+    lies_under rest valid
+    (sym (same_inside text path built) ∙ flat ∙ sym (folder_flat before f rest))
 
-owner_there : (before path : List ℕ) (k : Kind) (g : List ℕ) → IsOfKind before path k → owner_in k ≡ Some g → BelongsTo before path g
+owner_there : (before path : List ℕ) (k : Kind) (g : List ℕ) → IsOfKind before path k
+    → owner_in k ≡ Some g → BelongsTo before path g
 owner_there before path (Shared f key) g b e =
     subst (BelongsTo before path) (same_inside f g e)
-    (under before path f (shared_path before f key) (codes "data" ++ 47 ∷ nested key) b.valid.0 b.built (shared_flat before f key))
+    (under before path f (shared_path before f key) (codes "data" ++ 47 ∷ nested key) b.valid.0
+    b.built (shared_flat before f key))
 owner_there before path (Own f n key) g b e =
     subst (BelongsTo before path) (same_inside f g e)
-    (under before path f (own_path before f n key) (n ++ 47 ∷ (codes "data" ++ 47 ∷ nested key)) b.valid.0 b.built (own_flat before f n key))
+    (under before path f (own_path before f n key) (n ++ 47 ∷ (codes "data" ++ 47 ∷ nested key))
+    b.valid.0 b.built (own_flat before f n key))
 owner_there before path (Meta f n kind) g b e =
     subst (BelongsTo before path) (same_inside f g e)
-    (under before path f (meta_path before f n kind) (n ++ 47 ∷ (codes "meta" ++ 47 ∷ meta_file kind)) b.valid.0 b.built (meta_flat before f n kind))
-owner_there before path (Entry f n kind) g b e = subst (BelongsTo before path) (same_inside f g e) (is_entry n kind b)
-owner_there before path (Latest f kind) g b e = subst (BelongsTo before path) (same_inside f g e) (is_latest kind b)
-owner_there before path (Stray f n) g s e = subst (BelongsTo before path) (same_inside f g e) (lies_under s.rest s.node s.under)
+    (under before path f (meta_path before f n kind)
+    (n ++ 47 ∷ (codes "meta" ++ 47 ∷ meta_file kind)) b.valid.0 b.built
+    (meta_flat before f n kind))
+owner_there before path (Entry f n kind) g b e = subst (BelongsTo before path) (same_inside f g e)
+    (is_entry n kind b)
+owner_there before path (Latest f kind) g b e = subst (BelongsTo before path) (same_inside f g e)
+    (is_latest kind b)
+owner_there before path (Stray f n) g s e = subst (BelongsTo before path) (same_inside f g e)
+    (lies_under s.rest s.node s.under)
 owner_there before path Other g o e = absurd (cc)
 
 pub owners_are_told : OwnersAreTold
-owners_are_told before path f = (owner_there before path (kind_of before path) f (kind_told before path), owner_back before path f)
+owners_are_told before path f = (
+  owner_there before path (kind_of before path) f (kind_told before path),
+  owner_back before path
+      f,
+)

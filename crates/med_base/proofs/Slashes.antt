@@ -20,7 +20,8 @@ pub no_slash_by_test : (t : List ℕ) → lacks_slash t ≡ true → HasNoSlash 
 no_slash_by_test [] h = tt
 no_slash_by_test (b ∷ bs) h = go (b == 47) refl (no_slash_by_test bs) h
   where
-    go : (x : Bool) → (b == 47) ≡ x → (lacks_slash bs ≡ true → HasNoSlash bs) → (not x && lacks_slash bs) ≡ true
+    go : (x : Bool) → (b == 47) ≡ x → (lacks_slash bs ≡ true → HasNoSlash bs)
+        → (not x && lacks_slash bs) ≡ true
         → HasNoSlash (b ∷ bs)
     go true is more k = absurd (cc)
     go false is more k = ((λ e. true≢false (sym (ap (λ c. c == 47) e) ∙ is)), more k)
@@ -44,7 +45,8 @@ parts_whole (b ∷ bs) h =
 pub parts_around : (x t : List ℕ) → HasNoSlash x → parts (x ++ 47 ∷ t) ≡ x ∷ parts t
 parts_around [] t h = refl
 parts_around (b ∷ bs) t h =
-    ap (λ y. cond y ([] ∷ parts (bs ++ 47 ∷ t)) (onto_first b (parts (bs ++ 47 ∷ t)))) (not_equal b 47 h.0)
+    ap (λ y. cond y ([] ∷ parts (bs ++ 47 ∷ t)) (onto_first b (parts (bs ++ 47 ∷ t))))
+    (not_equal b 47 h.0)
     ∙ ap (onto_first b) (parts_around bs t h.1)
 
 -- a text has no slash, or stands around its first one
@@ -73,7 +75,11 @@ pub record HasParts (t : List ℕ) : Type 0 where
 pub has_parts : (t : List ℕ) → HasParts t
 has_parts t = elim (cut_at_slash t) [
   | whole h ↦ record { first = t; others = []; are = parts_whole t h }
-  | around x rest h is ↦ record { first = x; others = parts rest; are = ap parts is ∙ parts_around x rest h }
+  | around x rest h is ↦ record {
+    first = x;
+    others = parts rest;
+    are = ap parts is ∙ parts_around x rest h;
+  }
 ]
 
 -- more than two components are no pair

@@ -43,15 +43,18 @@ meta_of _ = None
 abbrev pub backup_kind : List ℕ → List ℕ → List (List ℕ) → Kind
 backup_kind f n [] = Stray f None
 backup_kind f n (part ∷ rest) =
-    if bytes_eq part (codes "data") then unwrap_or (option_map (Own f n) (key_of rest)) (Stray f (Some n))
-    else if bytes_eq part (codes "meta") then unwrap_or (option_map (Meta f n) (meta_of rest)) (Stray f (Some n))
+    if bytes_eq part (codes "data") then unwrap_or (option_map (Own f n) (key_of rest))
+    (Stray f (Some n))
+    else if bytes_eq part (codes "meta") then unwrap_or (option_map (Meta f n) (meta_of rest))
+    (Stray f (Some n))
     else Stray f (Some n)
 
 -- in the folder of a node
 abbrev pub node_kind : List ℕ → List (List ℕ) → Kind
 node_kind f [] = Other
 node_kind f (part ∷ rest) =
-    if bytes_eq part (codes "data") then unwrap_or (option_map (Shared f) (key_of rest)) (Stray f None)
+    if bytes_eq part (codes "data") then unwrap_or (option_map (Shared f) (key_of rest))
+    (Stray f None)
     else if is_none (backup_fault part) then backup_kind f part rest
     else Stray f None
 
@@ -59,7 +62,8 @@ node_kind f (part ∷ rest) =
 abbrev pub entry_kind : List ℕ × List ℕ → Option Kind
 entry_kind p =
     if is_none (backup_fault p.0)
-    then option_and_then (λ e. if is_none (fqdn_fault e.0) then Some (Entry e.0 p.0 e.1) else None) (entry_of p.1)
+    then option_and_then (λ e. if is_none (fqdn_fault e.0) then Some (Entry e.0 p.0 e.1) else None)
+    (entry_of p.1)
     else None
 
 abbrev pub all_latest : List LatestKind
@@ -76,8 +80,10 @@ latest_kind p =
 abbrev pub index_kind : List (List ℕ) → Kind
 index_kind [] = Other
 index_kind (part ∷ rest) =
-    if bytes_eq part (codes "backup_index") then unwrap_or (option_and_then entry_kind (pair_of rest)) Other
-    else if bytes_eq part (codes "latest_backup") then unwrap_or (option_and_then latest_kind (pair_of rest)) Other
+    if bytes_eq part (codes "backup_index") then unwrap_or
+    (option_and_then entry_kind (pair_of rest)) Other
+    else if bytes_eq part (codes "latest_backup") then unwrap_or
+    (option_and_then latest_kind (pair_of rest)) Other
     else Other
 
 -- below what stands before each path
@@ -90,4 +96,5 @@ kind_below (part ∷ rest) =
 
 -- the kind of a path under a layout
 abbrev pub kind_of : List ℕ → List ℕ → Kind
-kind_of before path = unwrap_or (option_map (λ text. kind_below (parts text)) (behind before path)) Other
+kind_of before path = unwrap_or (option_map (λ text. kind_below (parts text)) (behind before path))
+    Other

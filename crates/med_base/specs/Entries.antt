@@ -33,7 +33,8 @@ around_last byte (b ∷ bs) = cut_before byte b bs (around_last byte bs)
 -- the number below 2^64 whose decimal digits these are, without a leading zero
 abbrev pub second_of : List ℕ → Option ℕ
 second_of digits =
-    if nat_lt (digits_value 10 digits) (2 ^ 64) && bytes_eq (decimal (digits_value 10 digits)) digits
+    if nat_lt (digits_value 10 digits) (2 ^ 64) && bytes_eq (decimal (digits_value 10 digits))
+    digits
     then Some (digits_value 10 digits) else None
 
 abbrev pub with_second : List ℕ × List ℕ → Option (List ℕ × ℕ)
@@ -42,7 +43,8 @@ with_second cut = option_map (λ second. (cut.0, second)) (second_of cut.1)
 -- the node and the second of an entry whose name has both
 abbrev pub timed : List ℕ → List ℕ → Option (List ℕ × ℕ)
 timed front name =
-    option_and_then with_second (option_and_then (around_last 95) (between front (codes ".timestamp") name))
+    option_and_then with_second
+    (option_and_then (around_last 95) (between front (codes ".timestamp") name))
 
 -- the node and the kind of the entry with that name
 abbrev pub entry_of : List ℕ → Option (List ℕ × IndexKind)

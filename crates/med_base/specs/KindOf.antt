@@ -40,7 +40,8 @@ IsOfKind before path (Latest f kind) = IsBuilt before path (Latest f kind)
 
 -- a path is of this kind exactly where `kind_of` says so
 abbrev pub KindsAreTold : Type 0
-KindsAreTold = (before path : List ℕ) (k : Kind) → (kind_of before path ≡ k) ↔ IsOfKind before path k
+KindsAreTold = (before path : List ℕ) (k : Kind)
+    → (kind_of before path ≡ k) ↔ IsOfKind before path k
 
 -- whatever a builder gives has the kind and the values that it was built from
 abbrev pub BuiltIsTold : Type 0
@@ -48,4 +49,5 @@ BuiltIsTold = (before path : List ℕ) (k : Kind) → IsBuilt before path k → 
 
 -- two builders, or two values, never give one path
 abbrev pub PathsAreApart : Type 0
-PathsAreApart = (before path : List ℕ) (j k : Kind) → IsBuilt before path j → IsBuilt before path k → j ≡ k
+PathsAreApart = (before path : List ℕ) (j k : Kind) → IsBuilt before path j → IsBuilt before path k
+    → j ≡ k

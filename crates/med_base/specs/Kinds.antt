@@ -69,8 +69,10 @@ pub record IsBuilt (before path : List ℕ) (k : Kind) : Type 0 where
 
 -- what `classify` answers, as data
 abbrev pub as_data : PathKind → Kind
-as_data (path.Shared owner keyspace table file) = Shared owner.now (record { keyspace = keyspace.now; table = table.now; file = file.now })
-as_data (path.Own owner backup keyspace table file) = Own owner.now backup.now (record { keyspace = keyspace.now; table = table.now; file = file.now })
+as_data (path.Shared owner keyspace table file) = Shared owner.now
+    (record { keyspace = keyspace.now; table = table.now; file = file.now })
+as_data (path.Own owner backup keyspace table file) = Own owner.now backup.now
+    (record { keyspace = keyspace.now; table = table.now; file = file.now })
 as_data (path.Meta owner backup kind) = Meta owner.now backup.now kind
 as_data (path.Stray owner None) = Stray owner.now None
 as_data (path.Stray owner (Some backup)) = Stray owner.now (Some backup.now)

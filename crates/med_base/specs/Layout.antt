@@ -43,8 +43,10 @@ meta_path before f n kind = backup_folder before f n ++ codes "meta/" ++ meta_fi
 abbrev pub entry_file : List ℕ → IndexKind → List ℕ
 entry_file f entry.Tokenmap = codes "tokenmap_" ++ f ++ codes ".json"
 entry_file f entry.Manifest = codes "manifest_" ++ f ++ codes ".json"
-entry_file f (entry.Started second) = codes "started_" ++ f ++ codes "_" ++ decimal second ++ codes ".timestamp"
-entry_file f (entry.Finished second) = codes "finished_" ++ f ++ codes "_" ++ decimal second ++ codes ".timestamp"
+entry_file f (entry.Started second) = codes "started_" ++ f ++ codes "_" ++ decimal second ++ codes
+    ".timestamp"
+entry_file f (entry.Finished second) = codes "finished_" ++ f ++ codes "_" ++ decimal second ++
+    codes ".timestamp"
 entry_file f entry.Differential = codes "differential_" ++ f
 
 -- the folder of a backup in the index, with its slash
@@ -61,4 +63,5 @@ latest_file latest.Tokenmap = codes "tokenmap.json"
 
 -- what tells of the latest backup of a node
 abbrev pub latest_path : List ℕ → List ℕ → LatestKind → List ℕ
-latest_path before f kind = before ++ codes "index/latest_backup/" ++ f ++ codes "/" ++ latest_file kind
+latest_path before f kind = before ++ codes "index/latest_backup/" ++ f ++ codes "/" ++ latest_file
+    kind

@@ -33,8 +33,10 @@ node_part before f c = part_of (λ path. option_eq bytes_eq (owner_of before pat
 -- the path lies in the folder of the node, is an entry that the index has of the node, or tells of
 -- the node's latest backup
 pub data BelongsTo (before path f : List ℕ) : Type 0 where
-  lies_under : (rest : List ℕ) → IsFqdn f → path ≡ node_folder before f ++ rest → BelongsTo before path f
-  is_entry : (n : List ℕ) (kind : IndexKind) → IsBuilt before path (Entry f n kind) → BelongsTo before path f
+  lies_under : (rest : List ℕ) → IsFqdn f → path ≡ node_folder before f ++ rest
+      → BelongsTo before path f
+  is_entry : (n : List ℕ) (kind : IndexKind) → IsBuilt before path (Entry f n kind)
+      → BelongsTo before path f
   is_latest : (kind : LatestKind) → IsBuilt before path (Latest f kind) → BelongsTo before path f
 
 -- a path has this owner exactly where it belongs to it

@@ -45,7 +45,8 @@ fn is_backup(text: &str) -> bool
 
 // The keyspace, the table and the name of a file in a folder of data.
 fn key_in(text: &str) -> Option<(&str, &str, &str)>
-    ensures { option_map (λ k. record { keyspace = k.0.now; table = k.1.now; file = k.2.now }) result ≡ key_of (parts text.now) }
+    ensures { option_map (λ k. record { keyspace = k.0.now; table = k.1.now; file = k.2.now })
+        result ≡ key_of (parts text.now) }
 {
     let (keyspace, Some(rest)) = cut(text) else {
         return None;

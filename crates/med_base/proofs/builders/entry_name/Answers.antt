@@ -10,22 +10,30 @@ tokenmap f = simp append_assoc
 manifest : (f : List ℕ) → codes "manifest_" ++ (f ++ codes ".json") ≡ entry_file f Manifest
 manifest f = simp append_assoc
 
-started : (f : List ℕ) (t : ℕ) → codes "started_" ++ (f ++ (codes "_" ++ (decimal t ++ codes ".timestamp"))) ≡ entry_file f (Started t)
+started : (f : List ℕ) (t : ℕ) → codes "started_" ++
+    (f ++ (codes "_" ++ (decimal t ++ codes ".timestamp"))) ≡ entry_file f (Started t)
 started f t = simp append_assoc
 
-finished : (f : List ℕ) (t : ℕ) → codes "finished_" ++ (f ++ (codes "_" ++ (decimal t ++ codes ".timestamp"))) ≡ entry_file f (Finished t)
+finished : (f : List ℕ) (t : ℕ)
+    → codes "finished_" ++ (f ++ (codes "_" ++ (decimal t ++ codes ".timestamp"))) ≡ entry_file f
+    (Finished t)
 finished f t = simp append_assoc
 
 pub returns : goal.returns
 returns c = elim c.match-kind.branch [
   | in-Tokenmap+in_ok-format-in-Tokenmap w ↦
-      ap string_bytes w.result-is ∙ w.in_ok-format-in-Tokenmap.ensures.ok ∙ tokenmap _ ∙ ap₂ entry_file c.as_str-f.ensures.value (sym w.in-Tokenmap.is)
+      ap string_bytes w.result-is ∙ w.in_ok-format-in-Tokenmap.ensures.ok ∙ tokenmap _
+      ∙ ap₂ entry_file c.as_str-f.ensures.value (sym w.in-Tokenmap.is)
   | in-Manifest+in_ok-format-in-Manifest w ↦
-      ap string_bytes w.result-is ∙ w.in_ok-format-in-Manifest.ensures.ok ∙ manifest _ ∙ ap₂ entry_file c.as_str-f.ensures.value (sym w.in-Manifest.is)
+      ap string_bytes w.result-is ∙ w.in_ok-format-in-Manifest.ensures.ok ∙ manifest _
+      ∙ ap₂ entry_file c.as_str-f.ensures.value (sym w.in-Manifest.is)
   | in-Started+in_ok-format-in-Started w ↦
-      ap string_bytes w.result-is ∙ w.in_ok-format-in-Started.ensures.ok ∙ started _ _ ∙ ap₂ entry_file c.as_str-f.ensures.value (sym w.in-Started.is)
+      ap string_bytes w.result-is ∙ w.in_ok-format-in-Started.ensures.ok ∙ started _ _
+      ∙ ap₂ entry_file c.as_str-f.ensures.value (sym w.in-Started.is)
   | in-Finished+in_ok-format-in-Finished w ↦
-      ap string_bytes w.result-is ∙ w.in_ok-format-in-Finished.ensures.ok ∙ finished _ _ ∙ ap₂ entry_file c.as_str-f.ensures.value (sym w.in-Finished.is)
+      ap string_bytes w.result-is ∙ w.in_ok-format-in-Finished.ensures.ok ∙ finished _ _
+      ∙ ap₂ entry_file c.as_str-f.ensures.value (sym w.in-Finished.is)
   | in-Differential+in_ok-format-in-Differential w ↦
-      ap string_bytes w.result-is ∙ w.in_ok-format-in-Differential.ensures.ok ∙ ap₂ entry_file c.as_str-f.ensures.value (sym w.in-Differential.is)
+      ap string_bytes w.result-is ∙ w.in_ok-format-in-Differential.ensures.ok
+      ∙ ap₂ entry_file c.as_str-f.ensures.value (sym w.in-Differential.is)
 ]

@@ -16,4 +16,5 @@ by_kind name a b c d Manifest = d
 pub returns-in_default : goal.returns-in_default
 returns-in_default c =
     let arm = c.in_default in
-    sym (meta_none c.args.name.now (by_kind c.args.name.now arm.not-text arm.not-differential arm.not-text-2 arm.not-text-3))
+    sym (meta_none c.args.name.now
+    (by_kind c.args.name.now arm.not-text arm.not-differential arm.not-text-2 arm.not-text-3))
