@@ -4,7 +4,7 @@ use Rattle.med_base.specs.Content.{with_object}
 use Rattle.med_outside.specs.declared.denied.Denied.{Denied}
 use Rattle.med_outside.specs.declared.denied.Denied.TheVariants.{Failed, Memory}
 use Rattle.med_outside.specs.Effects.{Stores}
-use Rattle.med_outside.specs.State.{Moves, Looks, with_layout}
+use Rattle.med_outside.specs.State.{Moves, Looks, terms_of, opened}
 use Rattle.med_outside.specs.Storage.{Put}
 use Rattle.med_mem.specs.Told.{Note, Told, content_of, stood_since_of, state_of}
 
@@ -20,7 +20,7 @@ with_added path bytes second m = record {
   tick = m.tick;
   calls = m.calls;
   faults = m.faults;
-  layout = m.layout;
+  terms = m.terms;
 }
 
 -- the content is the old one with the object
@@ -36,10 +36,11 @@ with_clock clock m = record {
   tick = m.tick;
   calls = m.calls;
   faults = m.faults;
-  layout = m.layout;
+  terms = m.terms;
 }
 
--- a store without objects that no call was made of, under the layout of the empty prefix
+-- a store without objects that no call was made of, of a bucket and a base of no name and under the
+-- layout of the empty prefix
 abbrev pub new_at : ℕ → ℕ → Told
 new_at clock tick = record {
   notes = [];
@@ -47,7 +48,7 @@ new_at clock tick = record {
   tick = tick;
   calls = 0;
   faults = 0;
-  layout = [];
+  terms = terms_of [] [] [];
 }
 
 -- no call more can be counted
@@ -70,10 +71,10 @@ pub record Counts {T : Type 0} (old new : Told) (result : Result T Denied) : Typ
 abbrev pub Stays : Told → Told → Type 0
 Stays old new = Looks (state_of old) (state_of new) (stood_since_of old) (stood_since_of new)
 
--- the layout alone changed, in the same words
-abbrev pub IsOpened : List ℕ → Told → Told → Type 0
-IsOpened layout old new =
-    let before = with_layout layout (state_of old) in
+-- the terms alone changed, in the same words
+abbrev pub IsOpened : (base bucket layout : List ℕ) → Told → Told → Type 0
+IsOpened base bucket layout old new =
+    let before = opened base bucket layout (state_of old) in
     Moves [] before (state_of new) (stood_since_of old) (stood_since_of new)
 
 -- the object was stored with that second, in the same words

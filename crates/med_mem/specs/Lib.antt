@@ -3,6 +3,7 @@ pub mod Calls
 pub mod ToldLaws
 pub mod Objects
 pub mod Distinct
+pub mod Named
 pub mod Snaps
 pub mod OrderLaw
 pub mod Taken

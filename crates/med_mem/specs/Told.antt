@@ -5,7 +5,7 @@ use Rattle.std.specs.List.{list_all}
 use Rattle.std.specs.FinMap.{empty}
 use Rattle.med_base.specs.Content.{Content}
 use Rattle.med_outside.specs.Effects.{Effect, applied}
-use Rattle.med_outside.specs.State.{State}
+use Rattle.med_outside.specs.State.{State, Terms}
 
 -- a change, and how many calls that can fail had been made by then, its own among them
 pub record Note : Type 0 where
@@ -24,8 +24,8 @@ pub record Told : Type 0 where
   pub calls : ℕ
   -- how often a call failed
   pub faults : ℕ
-  -- what stands before each path of the bucket
-  pub layout : List ℕ
+  -- the bucket that is open, and its layout
+  pub terms : Terms
 
 -- what these changes make of an empty content
 abbrev pub content_after : List Note → Content
@@ -60,7 +60,7 @@ state_of m = record {
   second = Some m.clock;
   faults = m.faults;
   step = m.calls;
-  terms = record { layout = m.layout };
+  terms = m.terms;
 }
 
 -- no change was made in a later call

@@ -1,16 +1,18 @@
-//! The outside in memory: a storage, nodes with snapshots, and a sink.
+//! The outside in memory: files, a storage, nodes with snapshots, and a sink.
 //!
 //! Each is a full implementation of its trait in `med_outside`, and tells all that it holds. The
 //! storage keeps a record of its changes, from which the contents that stood follow.
 //! Read `specs/Told.antt` and `specs/Snaps.antt` first.
 #![tactic(auto)]
 
+mod files;
 mod nodes;
 mod object;
 mod sink;
 mod snapshot;
 mod store;
 
+pub use files::MemFiles;
 pub use nodes::MemNodes;
 pub use object::MemObject;
 pub use sink::MemSink;

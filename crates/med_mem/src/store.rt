@@ -23,22 +23,27 @@ pub struct MemStore {
     tick: u64,
     calls: u64,
     faults: u64,
+    base: String,
+    bucket: String,
     layout: Layout,
 }
 
 impl Model for MemStore {
+    ghost use Rattle.std.specs.Prelude.{string_bytes};
+    ghost use Rattle.med_outside.specs.State.{terms_of};
     ghost use Rattle.med_mem.specs.Told.{Told};
     ghost use Rattle.med_mem.specs.Objects.{told_by, Tells};
 
     ghost Value = { Told };
 
-    ghost view = { λ m. told_by m.changes.items m.clock m.tick m.calls m.faults m.layout };
+    ghost view = { λ m. told_by m.changes.items m.clock m.tick m.calls m.faults
+        (terms_of (string_bytes m.base) (string_bytes m.bucket) m.layout) };
 
     ghost invariant = { λ m. Tells m.objects.items m.changes.items m.calls };
 }
 
 impl MemStore {
-    /// A store without objects and faults, under the layout of the empty prefix. `now` begins at
+    /// A store without objects and faults that isn't open yet, under the layout of the empty prefix. `now` begins at
     /// the clock, in seconds, and each put that takes effect adds a tick to it afterwards, up to
     /// the last value. It takes no memory.
     pub fn new(alloc: Global, clock: u64, tick: u64) -> MemStore
@@ -51,6 +56,8 @@ impl MemStore {
             tick,
             calls: 0,
             faults: 0,
+            base: String::new(alloc),
+            bucket: String::new(alloc),
             layout: Layout::plain(alloc),
         }
     }
@@ -112,11 +119,11 @@ impl Storage for MemStore {
     fn open(
         &mut self,
         alloc: Global,
-        _base: &str,
-        _bucket: &str,
+        base: &str,
+        bucket: &str,
         prefix: &Layout,
     ) -> Result<(), Denied>
-        ensures ok { OnOk result (IsOpened prefix.now self.old self.new) }
+        ensures ok { OnOk result (IsOpened base.now bucket.now prefix.now self.old self.new) }
         ensures err { OnErr result (Stays self.old self.new) }
         ensures rests { Rests self.old self.new }
         ensures counts { Counts self.old self.new result }
@@ -127,13 +134,13 @@ impl Storage for MemStore {
             return Err(Denied::Failed);
         };
         self.calls = calls;
-        match prefix.copy(alloc) {
-            Ok(layout) => {
-                self.layout = layout;
-                Ok(())
-            }
-            Err(NoMemory) => Err(Denied::Memory),
-        }
+        let base = String::from_str(alloc, base)?;
+        let bucket = String::from_str(alloc, bucket)?;
+        let layout = prefix.copy(alloc)?;
+        self.base = base;
+        self.bucket = bucket;
+        self.layout = layout;
+        Ok(())
     }
 
     fn now(&mut self) -> u64

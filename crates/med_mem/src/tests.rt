@@ -3,7 +3,7 @@ ghost use Rattle.med_outside.specs.Snapshot.{raw_name};
 
 use super::*;
 use med_base::{Component, FileKey, Fqdn, Layout, NoMemory, ObjPath};
-use med_outside::{Denied, Nodes, RawKey, Sink, SinkFailed, Snap, Storage};
+use med_outside::{Denied, Files, Nodes, RawKey, Sink, SinkFailed, Snap, Storage};
 use std::alloc::Global;
 use std::test::*;
 
@@ -222,5 +222,40 @@ fn a_sink_is_full_at_its_limit(rt: HostRuntime) -> Result<(), Fail> {
     let want = [Ok(3), Ok(2), Err(SinkFailed), Ok(0)];
     assert_eq!(rt; four_writes(&mut sink), want);
     assert_eq!(rt; sink.bytes(), b"abcde".as_slice());
+    Ok(())
+}
+
+// What a name answers: the bytes, `none`, `failed` or `memory`.
+fn answer_of<F: Files>(alloc: Global, files: &mut F, name: &str) -> Result<Vec<u8>, NoMemory> {
+    let bytes = match files.read(alloc, name) {
+        Ok(Some(bytes)) => bytes,
+        Ok(None) => b"none".to_vec(alloc)?,
+        Err(Denied::Failed) => b"failed".to_vec(alloc)?,
+        Err(Denied::Memory) => b"memory".to_vec(alloc)?,
+    };
+    Ok(bytes)
+}
+
+fn two_files(alloc: Global) -> Result<MemFiles, NoMemory> {
+    let mut files = MemFiles::new(alloc);
+    files.add(alloc, "m.ini", b"abc".to_vec(alloc)?)?;
+    files.add(alloc, "m.ini", b"de".to_vec(alloc)?)?;
+    files.fail_at(3)?;
+    Ok(files)
+}
+
+#[test]
+fn files_are_read_by_name_and_fail_where_told(rt: HostRuntime) -> Result<(), Fail> {
+    let alloc = rt.alloc();
+    let mut files = two_files(alloc)?;
+    for (name, wanted) in [
+        ("m.ini", "abc"),
+        ("n.ini", "none"),
+        ("m.ini", "failed"),
+        ("m.ini", "abc"),
+    ] {
+        let answer = answer_of(alloc, &mut files, name)?;
+        assert_eq!(rt; answer.as_slice(), wanted.as_bytes());
+    }
     Ok(())
 }

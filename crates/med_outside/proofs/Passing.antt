@@ -2,7 +2,7 @@
 use Rattle.std.proofs.Common.{◌≡◌, inl, inr, ℕ, List, [], ◌∷◌, ◌++◌, Option, Some, None, refl, sym, ap, ◌∙◌, arith, append_assoc}
 use Rattle.med_base.specs.Content.{Content}
 use Rattle.med_outside.specs.Effects.{Effect, made, applied, after_all, IsMoment}
-use Rattle.med_outside.specs.State.{State, Passes, Moves, with_layout}
+use Rattle.med_outside.specs.State.{State, Terms, Passes, Moves, under_terms}
 
 pub applied-append : (xs ys : List Effect) (c : Content)
     → applied (xs ++ ys) c ≡ applied ys (applied xs c)
@@ -75,11 +75,11 @@ passes_at_rest s p = record {
 pub moves_at_rest : (s : State) (p : ℕ → Content → Type 0) → Moves [] s s p p
 moves_at_rest s p = record { passes = passes_at_rest s p; terms = refl }
 
--- the layout says nothing of what a call changed
-pub passes_from_layout : (before : List ℕ) (xs : List Effect) (s0 s1 : State)
+-- the terms say nothing of what a call changed
+pub passes_from_terms : (terms : Terms) (xs : List Effect) (s0 s1 : State)
     (p0 p1 : ℕ → Content → Type 0)
-    → Passes xs (with_layout before s0) s1 p0 p1 → Passes xs s0 s1 p0 p1
-passes_from_layout before xs s0 s1 p0 p1 a = record {
+    → Passes xs (under_terms terms s0) s1 p0 p1 → Passes xs s0 s1 p0 p1
+passes_from_terms terms xs s0 s1 p0 p1 a = record {
   content = a.content;
   told = a.told;
   later = a.later;

@@ -5,6 +5,9 @@ use Rattle.med_outside.specs.Effects.{Effect, after_all, IsMoment}
 
 -- what no change of the content touches; only `open` changes it
 pub record Terms : Type 0 where
+  -- the base and the name of the bucket that is open
+  pub base : List ℕ
+  pub bucket : List ℕ
   -- what stands before each path of the bucket
   pub layout : List ℕ
 
@@ -42,11 +45,20 @@ pub record Looks (old new : State) (past since : ℕ → Content → Type 0) : T
   pub moves : Moves [] old new past since
   pub second : new.second ≡ old.second
 
-abbrev pub with_layout : List ℕ → State → State
-with_layout layout s = record {
+-- the same with other terms
+abbrev pub under_terms : Terms → State → State
+under_terms terms s = record {
   content = s.content;
   second = s.second;
   faults = s.faults;
   step = s.step;
-  terms = record { layout = layout };
+  terms = terms;
 }
+
+-- the terms of a bucket that is open under a layout
+abbrev pub terms_of : (base bucket layout : List ℕ) → Terms
+terms_of base bucket layout = record { base = base; bucket = bucket; layout = layout }
+
+-- a bucket was opened under a layout
+abbrev pub opened : (base bucket layout : List ℕ) → State → State
+opened base bucket layout s = under_terms (terms_of base bucket layout) s

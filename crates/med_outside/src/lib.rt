@@ -1,4 +1,4 @@
-//! What a backup meets outside: a storage, nodes with their snapshots, and a sink.
+//! What a command meets outside: files, a storage, nodes with their snapshots, and a sink.
 //!
 //! Each trait says of every call what an answer means, what a refusal leaves, and that a refusal
 //! other than want of memory comes only where a count of faults rose. What an object holds is told
@@ -7,11 +7,13 @@
 #![tactic(auto)]
 
 mod denied;
+mod files;
 mod nodes;
 mod sink;
 mod storage;
 
 pub use denied::Denied;
+pub use files::Files;
 pub use nodes::{Nodes, RawKey, Snap};
 pub use sink::{Sink, SinkFailed};
 pub use storage::{Entry, Stat, Storage};

@@ -3,7 +3,7 @@ ghost use Rattle.std.specs.Prelude.{◌≡◌, ◌≤◌, ℕ, [], Some, IfOk, I
 ghost use Rattle.med_base.specs.Content.{Content};
 ghost use Rattle.med_outside.specs.declared.denied.Denied.TheVariants.{Failed, Memory};
 ghost use Rattle.med_outside.specs.Causes.{HasCause};
-ghost use Rattle.med_outside.specs.State.{State, Moves, Looks, with_layout};
+ghost use Rattle.med_outside.specs.State.{State, Moves, Looks, opened};
 ghost use Rattle.med_outside.specs.Storage.{IsToldAs, Put, MayPut, listing};
 
 use crate::Denied;
@@ -32,8 +32,8 @@ pub trait Storage: Sized {
     /// What it held at some moment since that step.
     ghost stood_since: { Self → ℕ → Content → Type 0 };
 
-    /// Makes the bucket ready, under a layout. It changes no content. After a refusal the layout
-    /// is the old one.
+    /// Makes the bucket of the name below the base ready, under a layout. It changes no content.
+    /// After a refusal what was open before is open still.
     fn open(
         &mut self,
         alloc: Global,
@@ -42,7 +42,7 @@ pub trait Storage: Sized {
         prefix: &Layout,
     ) -> Result<(), Denied>
         ensures ok { OnOk result
-            (Moves [] (with_layout prefix.now (state self.old)) (state self.new)
+            (Moves [] (opened base.now bucket.now prefix.now (state self.old)) (state self.new)
             (stood_since self.old) (stood_since self.new)) }
         ensures err { OnErr result
             (Moves [] (state self.old) (state self.new) (stood_since self.old)
