@@ -1,5 +1,5 @@
 -- Which paths below a bucket's folder are those of objects. This project's own rule.
-use Rattle.std.specs.Prelude.{ℕ, Bool, not, ◌&&◌, ◌||◌, ◌==◌, is_none, List, [], codes, position}
+use Rattle.std.specs.Prelude.{ℕ, Bool, not, ◌&&◌, ◌||◌, ◌==◌, ◌++◌, is_none, List, [], codes, position}
 use Rattle.std.specs.List.{list_all}
 use Rattle.std.specs.Str.{bytes_eq}
 use Rattle.med_base.specs.Content.{is_under}
@@ -17,6 +17,10 @@ is_name text =
 -- the folder of unfinished files, or a path below it
 abbrev pub is_unfinished : List ℕ → Bool
 is_unfinished path = bytes_eq path (codes ".medusa-tmp") || is_under (codes ".medusa-tmp/") path
+
+-- the folder of a bucket
+abbrev pub bucket_folder : (base bucket : List ℕ) → List ℕ
+bucket_folder base bucket = base ++ codes "/" ++ bucket
 
 -- names joined by slashes, and not in the folder of unfinished files
 abbrev pub is_object_path : List ℕ → Bool

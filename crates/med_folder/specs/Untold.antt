@@ -1,13 +1,13 @@
--- What contracts see of a storage over real files: its faults and its layout.
-use Rattle.std.specs.Prelude.{ℕ, List, None}
+-- What contracts see of a storage over real files: its faults, and the bucket that is open.
+use Rattle.std.specs.Prelude.{ℕ, None}
 use Rattle.med_base.specs.Content.{Content}
-use Rattle.med_outside.specs.State.{State}
+use Rattle.med_outside.specs.State.{State, Terms}
 
 pub record Edge : Type 0 where
   -- how often a call failed
   pub faults : ℕ
-  -- what stands before each path of the bucket
-  pub layout : List ℕ
+  -- the bucket that is open, and its layout
+  pub terms : Terms
 
 -- as a storage: no content, no second and no steps are told
 abbrev pub untold : Edge → State
@@ -16,7 +16,7 @@ untold edge = record {
   second = None;
   faults = edge.faults;
   step = 0;
-  terms = record { layout = edge.layout };
+  terms = edge.terms;
 }
 
 -- no content is known to have stood since any step

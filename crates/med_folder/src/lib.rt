@@ -1,4 +1,5 @@
-//! The outside as real files and folders: a bucket, the nodes with their snapshots, and a stream.
+//! The outside as real files and folders: files by name, a bucket, the nodes with their snapshots,
+//! and a stream.
 //!
 //! The objects meet the traits of med_outside and tell nothing of what they hold: no clause can say
 //! what a file holds. Each call asks the file system and hands the outcome to `counted`, so that
@@ -8,6 +9,7 @@
 
 mod count;
 mod files;
+mod named;
 mod nodes;
 mod paths;
 mod seconds;
@@ -16,6 +18,7 @@ mod snap;
 mod store;
 mod walk;
 
+pub use named::RealFiles;
 pub use nodes::FolderNodes;
 pub use sink::RealSink;
 pub use snap::FolderSnap;

@@ -15,7 +15,6 @@ use std::marker::Model;
 #[derive(Drop)]
 pub struct FolderNodes<R> {
     rt: R,
-    before: &'static str,
     faults: u64,
 }
 
@@ -28,15 +27,11 @@ impl<R> Model for FolderNodes<R> {
 }
 
 impl<R> FolderNodes<R> {
-    /// Nodes without a fault. `before` stands before each root as it is, as for a store.
-    pub fn new(rt: R, before: &'static str) -> FolderNodes<R>
+    /// Nodes without a fault.
+    pub fn new(rt: R) -> FolderNodes<R>
         ensures { result ≡ 0 }
     {
-        FolderNodes {
-            rt,
-            before,
-            faults: 0,
-        }
+        FolderNodes { rt, faults: 0 }
     }
 }
 
@@ -54,7 +49,7 @@ impl<R: Files + AllocGlobal + Clone + Drop> Nodes for FolderNodes<R> {
         node: &Fqdn,
         tag: &str,
     ) -> Result<FolderSnap<R>, Denied> {
-        let outcome = open_snap(&self.rt, alloc, self.before, root, node.as_str(), tag);
+        let outcome = open_snap(&self.rt, alloc, root, node.as_str(), tag);
         counted(&mut self.faults, outcome)
     }
 

@@ -47,7 +47,6 @@ impl<R> FolderSnap<R> {
 pub(crate) fn open_snap<R: Clone + Drop>(
     rt: &R,
     alloc: Global,
-    before: &str,
     root: &str,
     node: &str,
     tag: &str,
@@ -57,9 +56,7 @@ pub(crate) fn open_snap<R: Clone + Drop>(
     if !is_name(tag.as_bytes()) {
         return Err(io::Error::from(ErrorKind::InvalidFilename));
     }
-    let mut above = String::from_str(alloc, before)?;
-    above.push_str(root)?;
-    let node = joined(alloc, above.as_str(), node)?;
+    let node = joined(alloc, root, node)?;
     let tag = String::from_str(alloc, tag)?;
     let rt = rt.clone()?;
     Ok(FolderSnap {

@@ -1,11 +1,11 @@
 // A bucket as a folder.
-ghost use Rattle.std.specs.Prelude.{◌≡◌, [], true, IfOk, IfSome, IsErrOf, OnOk};
+ghost use Rattle.std.specs.Prelude.{◌≡◌, [], true, IfOk, IfSome, IsErrOf, OnOk, string_bytes};
 ghost use Rattle.med_outside.specs.declared.denied.Denied.TheVariants.{Failed, Memory};
 ghost use Rattle.med_outside.specs.Causes.{HasCause};
-ghost use Rattle.med_outside.specs.State.{Looks};
+ghost use Rattle.med_outside.specs.State.{Looks, terms_of};
 ghost use Rattle.med_outside.specs.Storage.{Put, MayPut, listing};
-ghost use Rattle.med_folder.specs.Listing.{AreUnder, AreInOrder};
-ghost use Rattle.med_folder.specs.Place.{is_object_path};
+ghost use Rattle.med_folder.specs.Listing.{AreShown, AreInOrder};
+ghost use Rattle.med_folder.specs.Place.{bucket_folder, is_object_path};
 ghost use Rattle.med_folder.specs.Untold.{untold, never};
 
 use crate::count::{counted, is_absent};
@@ -27,7 +27,8 @@ use std::{fs, io};
 #[derive(Drop)]
 pub struct FolderStore<R> {
     rt: R,
-    before: &'static str,
+    folder: String,
+    base: String,
     bucket: String,
     layout: Layout,
     last: u64,
@@ -35,23 +36,32 @@ pub struct FolderStore<R> {
 }
 
 impl<R> Model for FolderStore<R> {
+    ghost use Rattle.std.specs.Prelude.{◌≡◌, ◌⊎◌, [], string_bytes};
+    ghost use Rattle.med_outside.specs.State.{terms_of};
+    ghost use Rattle.med_folder.specs.Place.{bucket_folder};
     ghost use Rattle.med_folder.specs.Untold.{Edge};
 
     ghost Value = { Edge };
 
-    ghost view = { λ s. record { faults = s.faults; layout = s.layout } };
+    ghost view = { λ s. record {
+      faults = s.faults;
+      terms = terms_of (string_bytes s.base) (string_bytes s.bucket) s.layout;
+    } };
+
+    // The folder is that of the bucket that is open, or none is open.
+    ghost invariant = { λ s. (string_bytes s.folder ≡ [])
+        ⊎ (string_bytes s.folder ≡ bucket_folder (string_bytes s.base) (string_bytes s.bucket)) };
 }
 
 impl<R> FolderStore<R> {
-    /// A store that isn't open yet: until then each put and listing is a fault. `before` stands
-    /// before each base as it is: `.` makes `./b/k` of the base `/b` and the bucket `k`, and the
-    /// empty text leaves the base as it is.
-    pub fn new(alloc: Global, rt: R, before: &'static str) -> FolderStore<R>
-        ensures { result ≡ record { faults = 0; layout = [] } }
+    /// A store that isn't open yet: until then each put and listing is a fault. It takes no memory.
+    pub fn new(alloc: Global, rt: R) -> FolderStore<R>
+        ensures { result ≡ record { faults = 0; terms = terms_of [] [] [] } }
     {
         FolderStore {
             rt,
-            before,
+            folder: String::new(alloc),
+            base: String::new(alloc),
             bucket: String::new(alloc),
             layout: Layout::plain(alloc),
             last: 0,
@@ -73,17 +83,16 @@ fn clear_folder<R: Files + AllocGlobal>(rt: &R, path: &str) -> io::Result<()> {
 fn open_bucket<R: Files + AllocGlobal>(
     rt: &R,
     alloc: Global,
-    before: &str,
     base: &str,
     bucket: &str,
-) -> io::Result<String> {
-    let mut above = String::from_str(alloc, before)?;
-    above.push_str(base)?;
-    let folder = joined(alloc, above.as_str(), bucket)?;
+) -> io::Result<String>
+    ensures { IfOk result (λ folder. string_bytes folder ≡ bucket_folder base.now bucket.now) }
+{
+    let folder = joined(alloc, base, bucket)?;
     make_folders(rt, folder.as_str())?;
     let unfinished = joined(alloc, folder.as_str(), UNFINISHED)?;
     clear_folder(rt, unfinished.as_str())?;
-    sync_way(rt, above.as_str(), unfinished.as_str())?;
+    sync_way(rt, base, unfinished.as_str())?;
     Ok(folder)
 }
 
@@ -123,8 +132,12 @@ impl<R: Files + Clock + AllocGlobal + Clone + Drop> Storage for FolderStore<R> {
         prefix: &Layout,
     ) -> Result<(), Denied> {
         let layout = prefix.copy(alloc)?;
-        let outcome = open_bucket(&self.rt, alloc, self.before, base, bucket);
-        self.bucket = counted(&mut self.faults, outcome)?;
+        let base_text = String::from_str(alloc, base)?;
+        let bucket_text = String::from_str(alloc, bucket)?;
+        let outcome = open_bucket(&self.rt, alloc, base, bucket);
+        self.folder = counted(&mut self.faults, outcome)?;
+        self.base = base_text;
+        self.bucket = bucket_text;
         self.layout = layout;
         Ok(())
     }
@@ -143,7 +156,7 @@ impl<R: Files + Clock + AllocGlobal + Clone + Drop> Storage for FolderStore<R> {
         ensures place { OnOk result (is_object_path path.now ≡ true) }
     {
         let second = self.now();
-        let bucket = self.bucket.as_str();
+        let bucket = self.folder.as_str();
         let outcome = put_file(&self.rt, alloc, bucket, path.as_str(), bytes, second);
         counted(&mut self.faults, outcome)?;
         Ok(second)
@@ -154,10 +167,10 @@ impl<R: Files + Clock + AllocGlobal + Clone + Drop> Storage for FolderStore<R> {
         ensures entries { IfOk result (λ entries. IfSome (untold self.old).content (λ c. entries.items ≡ listing under.now c)) }
         ensures looks { Looks (untold self.old) (untold self.new) never never }
         ensures cause { HasCause self.old.faults self.new.faults result }
-        ensures under { IfOk result (λ entries. AreUnder under.now entries.items) }
+        ensures shown { IfOk result (λ entries. AreShown under.now entries.items) }
         ensures order { IfOk result (λ entries. AreInOrder entries.items) }
     {
-        let outcome = files_under(&self.rt, alloc, self.bucket.as_str(), under);
+        let outcome = files_under(&self.rt, alloc, self.folder.as_str(), under);
         counted(&mut self.faults, outcome)
     }
 

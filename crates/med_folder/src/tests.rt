@@ -1,8 +1,8 @@
 // Each object once over real folders.
 use crate::files::{make_folders, write_anew};
 use crate::paths::parent_of;
-use crate::{FolderNodes, FolderStore};
-use med_base::{Component, FileKey, Fqdn, Layout, NameError, ObjPath};
+use crate::{FolderNodes, FolderStore, RealFiles};
+use med_base::{Component, FileKey, Fqdn, Layout, NameError, NoMemory, ObjPath};
 use med_outside::{Denied, Nodes, Snap, Storage};
 use std::alloc::Global;
 use std::fs::Files;
@@ -28,7 +28,7 @@ fn put_text<S: Storage>(
 
 // Puts three objects, and answers their seconds.
 fn put_three<S: Storage>(alloc: Global, store: &mut S) -> Result<[u64; 3], Denied> {
-    store.open(alloc, "/b", "k", &Layout::plain(alloc))?;
+    store.open(alloc, "b", "k", &Layout::plain(alloc))?;
     let schema = put_text(alloc, store, "n1/b1/meta/schema.cql", "abc")?;
     let empty = put_text(alloc, store, "a/x", "")?;
     let dashed = put_text(alloc, store, "a-b/x", "de")?;
@@ -52,7 +52,7 @@ fn list_twice<S: Storage>(alloc: Global, store: &mut S) -> Result<String, Denied
 fn a_store_lists_its_plain_files_in_byte_order(rt: HostRuntime) -> Result<(), Fail> {
     let alloc = rt.alloc();
     let start = SystemTime::now(&rt)?.duration_since(UNIX_EPOCH)?.as_secs();
-    let mut store = FolderStore::new(alloc, rt, ".");
+    let mut store = FolderStore::new(alloc, rt);
     let [schema, empty, dashed] = put_three(alloc, &mut store)?;
     make_file(&rt, "b/k/.medusa-tmp/left", "left")?;
     symlink(&rt, "x", "b/k/a/link")?;
@@ -114,7 +114,7 @@ fn read_all<R: Files + AllocGlobal + Clone + Drop>(
 fn a_snapshot_lists_and_reads_files_and_indexes(rt: HostRuntime) -> Result<(), Fail> {
     let alloc = rt.alloc();
     make_node(&rt)?;
-    let mut nodes = FolderNodes::new(rt, "");
+    let mut nodes = FolderNodes::new(rt);
     let node = Fqdn::read(alloc, "n1")?;
     let listed = list_keys(alloc, &mut nodes, &node)?;
     let none = list_keys(alloc, &mut nodes, &Fqdn::read(alloc, "n2")?)?;
@@ -126,5 +126,43 @@ fn a_snapshot_lists_and_reads_files_and_indexes(rt: HostRuntime) -> Result<(), F
         seen,
         ("ks t-1 f\nks t-1.i g\n", "", b"abcde-- s\n".as_slice())
     );
+    Ok(())
+}
+
+// What a name answers: the bytes, `none`, `failed` or `memory`.
+fn answer_of<F: med_outside::Files>(
+    alloc: Global,
+    files: &mut F,
+    name: &str,
+) -> Result<Vec<u8>, NoMemory> {
+    let bytes = match files.read(alloc, name) {
+        Ok(Some(bytes)) => bytes,
+        Ok(None) => b"none".to_vec(alloc)?,
+        Err(Denied::Failed) => b"failed".to_vec(alloc)?,
+        Err(Denied::Memory) => b"memory".to_vec(alloc)?,
+    };
+    Ok(bytes)
+}
+
+#[test]
+fn files_are_read_by_name_and_a_folder_is_a_fault(rt: HostRuntime) -> Result<(), Fail> {
+    let alloc = rt.alloc();
+    make_file(&rt, "conf/medusa.ini", "abc")?;
+    symlink(&rt, "medusa.ini", "conf/link")?;
+    symlink(&rt, "nowhere", "conf/dangling")?;
+    let mut files = RealFiles::new(rt);
+    for (name, wanted) in [
+        ("conf/medusa.ini", "abc"),
+        ("conf/link", "abc"),
+        ("conf/dangling", "none"),
+        ("conf/other.ini", "none"),
+        ("conf/medusa.ini/x", "none"),
+        ("conf/me\0dusa.ini", "none"),
+        ("", "none"),
+        ("conf", "failed"),
+    ] {
+        let answer = answer_of(alloc, &mut files, name)?;
+        assert_eq!(rt; answer.as_slice(), wanted.as_bytes());
+    }
     Ok(())
 }

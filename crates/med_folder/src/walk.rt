@@ -1,9 +1,10 @@
 // The files under a text.
-ghost use Rattle.std.specs.Prelude.{◌≡◌, ◌||◌, [], IfOk, IsPermutation};
+ghost use Rattle.std.specs.Prelude.{◌≡◌, ◌||◌, ◌&&◌, not, [], IfOk, IsPermutation};
 ghost use Rattle.std.specs.Ordering.{nat_cmp};
 ghost use Rattle.std.specs.Cmp.Lexicographic.{slice_cmp};
 ghost use Rattle.med_base.specs.Content.{is_under};
-ghost use Rattle.med_folder.specs.Listing.{AreUnder, AreInOrder};
+ghost use Rattle.med_folder.specs.Listing.{is_shown, AreShown, AreInOrder};
+ghost use Rattle.med_folder.specs.Place.{is_unfinished};
 
 use crate::count::is_absent;
 use crate::files::{check_folder, is_plain_way};
@@ -13,7 +14,7 @@ use med_base::ObjPath;
 use med_outside::Entry;
 use std::alloc::Global;
 use std::cmp::Ordering;
-use std::fs::{DirEntry, Files};
+use std::fs::{DirEntry, Files, Metadata};
 use std::{fs, io};
 
 // The folder at which a listing begins, with a slash at its end, where no link leads there. The
@@ -42,7 +43,7 @@ pub(crate) fn files_under<R: Files + AllocGlobal + Clone + Drop>(
     bucket: &str,
     under: &str,
 ) -> io::Result<Vec<Entry>>
-    ensures under { IfOk result (λ entries. AreUnder under.now entries.items) }
+    ensures shown { IfOk result (λ entries. AreShown under.now entries.items) }
     ensures order { IfOk result (λ entries. AreInOrder entries.items) }
 {
     check_folder(rt, bucket)?;
@@ -82,8 +83,8 @@ fn look_into<R: Files + AllocGlobal + Clone + Drop>(
     folders: &mut Vec<String>,
     found: &mut Vec<Entry>,
 ) -> io::Result<()>
-    requires { AreUnder under.now found.old.items }
-    ensures { AreUnder under.now found.new.items }
+    requires { AreShown under.now found.old.items }
+    ensures { AreShown under.now found.new.items }
 {
     let path = joined(alloc, bucket, folder)?;
     let listing = match fs::read_dir(rt, path.as_str()) {
@@ -107,14 +108,11 @@ fn take_entry<R: Files + Clone + Drop>(
     folders: &mut Vec<String>,
     found: &mut Vec<Entry>,
 ) -> io::Result<()>
-    requires { AreUnder under.now found.old.items }
-    ensures { AreUnder under.now found.new.items }
+    requires { AreShown under.now found.old.items }
+    ensures { AreShown under.now found.new.items }
 {
     let mut path = String::from_str(alloc, folder)?;
     path.push_str(entry.file_name())?;
-    if is_unfinished(path.as_str().as_bytes()) {
-        return Ok(());
-    }
     let metadata = match entry.metadata() {
         Ok(metadata) => metadata,
         Err(error) if is_absent(&error) => return Ok(()),
@@ -125,13 +123,39 @@ fn take_entry<R: Files + Clone + Drop>(
         if may_hold(path.as_str(), under) {
             folders.push(path)?;
         }
-    } else if metadata.is_file() && is_under_text(path.as_str(), under) {
-        let size = metadata.len();
-        let second = modified_second(&metadata)?;
-        let path = ObjPath::from_string(path);
-        found.push(Entry { path, size, second })?;
+        Ok(())
+    } else if metadata.is_file() {
+        take_file(path, &metadata, under, found)
+    } else {
+        Ok(())
     }
+}
+
+// Takes the file up, where it is shown under the text.
+fn take_file(
+    path: String,
+    metadata: &Metadata,
+    under: &str,
+    found: &mut Vec<Entry>,
+) -> io::Result<()>
+    requires { AreShown under.now found.old.items }
+    ensures { AreShown under.now found.new.items }
+{
+    if !is_shown(path.as_str(), under) {
+        return Ok(());
+    }
+    let size = metadata.len();
+    let second = modified_second(metadata)?;
+    let path = ObjPath::from_string(path);
+    found.push(Entry { path, size, second })?;
     Ok(())
+}
+
+#[tactic(auto, unfolding(crate::specs::Listing::is_shown))]
+fn is_shown(path: &str, text: &str) -> bool
+    ensures { result ≡ is_shown text.now path.now }
+{
+    is_under_text(path, text) && !is_unfinished(path.as_bytes())
 }
 
 fn is_under_text(path: &str, text: &str) -> bool
@@ -142,7 +166,9 @@ fn is_under_text(path: &str, text: &str) -> bool
 
 // Whether a path that begins with the folder's may begin with the text.
 fn may_hold(folder: &str, under: &str) -> bool
-    ensures { result ≡ (is_under folder.now under.now || is_under under.now folder.now) }
+    ensures { result ≡ ((is_under folder.now under.now || is_under under.now folder.now)
+        && not (is_unfinished folder.now)) }
 {
-    is_under_text(under, folder) || is_under_text(folder, under)
+    (is_under_text(under, folder) || is_under_text(folder, under))
+        && !is_unfinished(folder.as_bytes())
 }

@@ -39,7 +39,7 @@ fn listed<S: Storage>(alloc: Global, store: &mut S, under: &str) -> Result<Strin
 }
 
 fn check_store<S: Storage>(alloc: Global, store: &mut S) -> Result<Seen, Denied> {
-    store.open(alloc, "/b", "k", &Layout::plain(alloc))?;
+    store.open(alloc, "b", "k", &Layout::plain(alloc))?;
     let first = store.list(alloc, "")?.len();
     put(alloc, store, "n1/b-1/x", b"1")?;
     put(alloc, store, "n1/b/x", b"12")?;
@@ -70,6 +70,6 @@ fn a_store_in_memory_passes(rt: HostRuntime) {
 #[test]
 fn a_store_of_folders_passes(rt: HostRuntime) {
     let alloc = rt.alloc();
-    let mut store = FolderStore::new(alloc, rt, ".");
+    let mut store = FolderStore::new(alloc, rt);
     assert_eq!(rt; check_store(alloc, &mut store), Ok(WANTED));
 }
