@@ -1,0 +1,15 @@
+//! The ini form, and the options of medusa.ini.
+//!
+//! `Ini` is the list of the options that a text sets, and `Config` what the commands read of them.
+//! Read `specs/Entries.antt` and `specs/Options.antt` first.
+#![tactic(auto)]
+
+mod checks;
+mod config;
+mod ini;
+mod numbers;
+mod overrides;
+
+pub use config::{Config, ConfigError};
+pub use ini::Ini;
+pub use overrides::Overrides;
