@@ -8,12 +8,14 @@
 
 mod denied;
 mod files;
+mod mode;
 mod nodes;
 mod sink;
 mod storage;
 
 pub use denied::Denied;
 pub use files::Files;
+pub use mode::Mode;
 pub use nodes::{Nodes, RawKey, Snap};
 pub use sink::{Sink, SinkFailed};
 pub use storage::{Entry, Stat, Storage};
