@@ -1,2 +1,4 @@
 pub mod CheckLemmas
 pub mod DigitLemmas
+pub mod LabelLemmas
+pub mod LineLemmas

@@ -6,10 +6,14 @@
 
 mod checks;
 mod config;
+mod errors;
 mod ini;
+mod labels;
+mod lines;
 mod numbers;
 mod overrides;
 
 pub use config::{Config, ConfigError};
+pub use errors::{IniError, IniKind};
 pub use ini::Ini;
 pub use overrides::Overrides;

@@ -1,0 +1,42 @@
+// Why a text isn't in the ini form.
+use std::fmt;
+use thiserror::Error;
+
+/// A fault of a text, in the order of the checks of a line behind the first.
+#[derive(Clone, Copy, Debug, PartialEq, Eq)]
+pub enum IniKind {
+    /// The text isn't UTF-8. This is told before any other fault.
+    NotUtf8,
+    /// A line that is no header stands before any header.
+    NoSection,
+    /// An option has neither `=` nor `:`.
+    NoDelimiter,
+    /// A header has the name of one before, other than `DEFAULT`.
+    DuplicateSection,
+    /// The key of an option stands already in its section.
+    DuplicateOption,
+    /// Nothing stands before the delimiter of an option.
+    EmptyKey,
+}
+
+impl fmt::Display for IniKind {
+    fn fmt<W: fmt::Write>(&self, f: &mut fmt::Formatter<W>) -> fmt::Result {
+        match self {
+            IniKind::NotUtf8 => write!(f, "not utf-8"),
+            IniKind::NoSection => write!(f, "no section"),
+            IniKind::NoDelimiter => write!(f, "no delimiter"),
+            IniKind::DuplicateSection => write!(f, "duplicate section"),
+            IniKind::DuplicateOption => write!(f, "duplicate option"),
+            IniKind::EmptyKey => write!(f, "empty key"),
+        }
+    }
+}
+
+/// Why a text was refused.
+#[derive(Clone, Copy, Debug, Drop, PartialEq, Eq, Error)]
+pub enum IniError {
+    #[error("line {line}: {kind}")]
+    Fault { line: u64, kind: IniKind },
+    #[error("out of memory")]
+    Memory,
+}
