@@ -1,4 +1,10 @@
 pub mod CheckLemmas
 pub mod DigitLemmas
+pub mod Distinct
+pub mod Faults
 pub mod LabelLemmas
 pub mod LineLemmas
+pub mod OneFault
+pub mod OneReading
+pub mod Readings
+pub mod Rules

@@ -26,4 +26,5 @@ value_of entries section key =
 -- some key stands twice in a section
 abbrev pub stands_twice : List Entry → Bool
 stands_twice [] = false
-stands_twice (e ∷ entries) = list_any (is_of e.section e.key) entries || stands_twice entries
+stands_twice (e ∷ entries) =
+    list_any (λ (x : Entry). is_of x.section x.key e) entries || stands_twice entries

@@ -5,7 +5,7 @@ use Rattle.std.specs.Str.{IsUtf8, IsValidUpTo}
 use Rattle.med_ini.specs.Document.{document}
 use Rattle.med_ini.specs.Entries.{Entry}
 use Rattle.med_ini.specs.Labels.{Label, Place, Reads, FirstFault, start}
-use Rattle.med_ini.specs.Lines.{lines_of}
+use Rattle.med_ini.specs.Lines.{Line, lines_of}
 use Rattle.med_ini.specs.declared.errors.IniError.{IniError}
 use Rattle.med_ini.specs.declared.errors.IniError.TheVariants.{Fault, Memory}
 use Rattle.med_ini.specs.declared.errors.IniKind.{IniKind}
@@ -38,6 +38,11 @@ FaultOn bytes line NoDelimiter = IsFaultOn bytes line NoDelimiter
 FaultOn bytes line DuplicateSection = IsFaultOn bytes line DuplicateSection
 FaultOn bytes line DuplicateOption = IsFaultOn bytes line DuplicateOption
 FaultOn bytes line EmptyKey = IsFaultOn bytes line EmptyKey
+
+-- a refusal for a line is that of the first line without a label; of want of memory nothing is said
+abbrev pub StopsAt : List Line → IniError → Type 0
+StopsAt lines (Fault line kind) = FirstFault lines line kind
+StopsAt lines Memory = Unit {0}
 
 -- the refusal tells the first fault; of want of memory nothing is said
 abbrev pub BlamesIni : List ℕ → IniError → Type 0

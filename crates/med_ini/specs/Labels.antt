@@ -140,6 +140,10 @@ Reads p (line ∷ lines) (l ∷ labels) q = Fits p line l × Reads (after p line
 Reads p [] (l ∷ labels) q = ⊥
 Reads p (line ∷ lines) [] q = ⊥
 
+-- labels fit the lines of a whole text
+abbrev pub AreLabels : List Line → List Label → Type 0
+AreLabels lines labels = (end : Place) × Reads start lines labels end
+
 -- the lines before this one have labels, and no label fits it, for this reason
 pub record FirstFault (lines : List Line) (number : ℕ) (kind : IniKind) : Type 0 where
   pub before : List Line

@@ -1,4 +1,9 @@
 // Why a text isn't in the ini form.
+ghost use Rattle.std.specs.Prelude.{◌≡◌};
+ghost use Rattle.med_ini.specs.declared.errors.IniError.TheVariants.{Memory};
+
+use med_base::NoMemory;
+use std::alloc::AllocFailed;
 use std::fmt;
 use thiserror::Error;
 
@@ -39,4 +44,20 @@ pub enum IniError {
     Fault { line: u64, kind: IniKind },
     #[error("out of memory")]
     Memory,
+}
+
+impl From<NoMemory> for IniError {
+    ghost from_gives = { λ _ e. e ≡ Memory };
+
+    fn from(_: NoMemory) -> Self {
+        IniError::Memory
+    }
+}
+
+impl<T: Drop> From<AllocFailed<T>> for IniError {
+    ghost from_gives = { λ _ e. e ≡ Memory };
+
+    fn from(_: AllocFailed<T>) -> Self {
+        IniError::Memory
+    }
 }

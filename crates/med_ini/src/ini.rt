@@ -1,7 +1,7 @@
 // The options that a text in the ini form sets.
-ghost use Rattle.std.specs.Prelude.{◌≡◌, map, option_map};
+ghost use Rattle.std.specs.Prelude.{◌≡◌, false, map, option_map};
 ghost use Rattle.std.specs.List.{find};
-ghost use Rattle.med_ini.specs.Entries.{is_of, own_value, value_of};
+ghost use Rattle.med_ini.specs.Entries.{is_of, own_value, stands_twice, value_of};
 ghost use Rattle.med_ini.specs.Views.{entry_view};
 
 use std::marker::Model;
@@ -55,6 +55,14 @@ fn found<'a>(entries: &'a [Setting], section: &str, key: &str) -> Option<&'a Set
 }
 
 impl Ini {
+    /// The text with these entries.
+    pub(crate) fn of(entries: Vec<Setting>) -> Ini
+        requires { stands_twice (map entry_view entries.items) ≡ false }
+        ensures { result ≡ map entry_view entries.items }
+    {
+        Ini { entries }
+    }
+
     /// The option's own value, else that of the section `DEFAULT`, also where the section isn't in
     /// the text. It takes no memory.
     pub fn value(&self, section: &str, option: &str) -> Option<&str>

@@ -6,14 +6,20 @@
 
 mod checks;
 mod config;
+mod document;
 mod errors;
 mod ini;
 mod labels;
+mod laws;
 mod lines;
 mod numbers;
 mod overrides;
+mod read;
+mod reading;
 
 pub use config::{Config, ConfigError};
 pub use errors::{IniError, IniKind};
 pub use ini::Ini;
+pub use laws::one_reading;
 pub use overrides::Overrides;
+pub use read::read_ini;
