@@ -2,8 +2,8 @@
 use Rattle.std.proofs.Common.{◌≡◌, ◌∙◌, ◌||◌, ◌++◌, ◌∷◌, [], Bool, true, false, List, refl, sym, ap₂}
 use Rattle.std.proofs.lemmas.List.Folds.{list_any-append}
 use Rattle.std.specs.List.{list_any, AllByRecursion}
-use Rattle.med_ini.specs.Document.{entries_in, whole_value}
-use Rattle.med_ini.specs.Entries.{Entry, is_of, stands_twice}
+use Rattle.med_ini.specs.Document.{entries_in}
+use Rattle.med_ini.specs.Entries.{Entry, stands_twice}
 use Rattle.med_ini.specs.Labels.{Label, quiet, more, header, option, Named, Place, Reads, after, is_named, section_name}
 use Rattle.med_ini.specs.Lines.{Line}
 

@@ -1,10 +1,10 @@
 -- Where a line may be cut, and what its first byte says.
-use Rattle.std.proofs.Common.{◌≡◌, ◌≢◌, ◌∙◌, ◌≤◌, ◌<◌, ◌+◌, ◌-◌, ◌==◌, ◌||◌, ℕ, Bool, zero, suc, true, false, cond, List, [], ◌∷◌, length, get_or, map, None, refl, sym, ap, subst, arith, add-one, eqb-true, eq-eqb}
-use Rattle.std.specs.List.{prefix_len, suffix_len}
+use Rattle.std.proofs.Common.{◌≡◌, ◌≢◌, ◌∙◌, ◌≤◌, ◌<◌, ◌-◌, ◌==◌, ℕ, Bool, zero, suc, true, false, List, [], ◌∷◌, length, get_or, None, refl, sym, ap, subst, arith, add-one, eqb-true}
+use Rattle.std.specs.List.{suffix_len}
 use Rattle.std.specs.Str.{IsUtf8, IsCharBoundary, str_to_ascii_lowercase}
 use Rattle.std.proofs.lemmas.Bool.Decides.{nat_tests}
 use Rattle.std.proofs.lemmas.List.Sums.{prefix_len_passes, suffix_len_is}
-use Rattle.std.proofs.lemmas.Str.{IsCharBoundary-start, IsCharBoundary-end, IsCharBoundary-before_ascii, IsCharBoundary-after_ascii}
+use Rattle.std.proofs.lemmas.Str.{IsCharBoundary-start, IsCharBoundary-after_ascii}
 use Rattle.med_ini.specs.Lines.{Line, is_space, is_blank, indent, is_empty, header_of}
 
 pub space_ascii : (b : ℕ) → is_space b ≡ true → b < 128

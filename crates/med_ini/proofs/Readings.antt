@@ -1,5 +1,5 @@
 -- Labels of many lines: one line more, one reading, one first fault.
-use Rattle.std.proofs.Common.{◌≡◌, ◌∙◌, ◌+◌, ◌++◌, ◌∷◌, [], ℕ, List, suc, length, refl, sym, ap, ap₂, subst, arith}
+use Rattle.std.proofs.Common.{◌≡◌, ◌++◌, ◌∷◌, [], ℕ, List, suc, length, refl, sym, ap, ap₂, subst}
 use Rattle.med_ini.specs.Lines.{Line}
 use Rattle.med_ini.specs.Labels.{Label, Place, Fits, IsFault, Reads, FirstFault, start, after}
 use Rattle.med_ini.specs.declared.errors.IniKind.{IniKind}

@@ -16,7 +16,8 @@ is_of section key e = bytes_eq e.section section && bytes_eq e.key key
 
 -- the value of the key in the section itself
 abbrev pub own_value : List Entry → List ℕ → List ℕ → Option (List ℕ)
-own_value entries section key = option_map (λ (e : Entry). e.value) (find (is_of section key) entries)
+own_value entries section key =
+    option_map (λ (e : Entry). e.value) (find (is_of section key) entries)
 
 -- the own value, else that of the key in the section `DEFAULT`
 abbrev pub value_of : List Entry → List ℕ → List ℕ → Option (List ℕ)

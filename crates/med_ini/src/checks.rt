@@ -1,6 +1,7 @@
 // The checks of options, each with its refusal.
 ghost use Rattle.std.specs.Prelude.{◌≡◌, [], None, Some, IfOk, OnOk, IfErr, option_map, unwrap_or, string_bytes, codes, false, if◌then◌else◌};
 ghost use Rattle.med_base.specs.Prefix.{before_of};
+ghost use Rattle.med_ini.specs.Views.{text_in};
 ghost use Rattle.med_ini.specs.Options.{bad_name, has_nul, is_bad_bucket, is_bad_prefix, is_bad_node, filled, text_at, provider_fault, required_fault, optional_fault, number_fault, number_or, stored, foldered, Blames};
 
 use crate::Ini;
@@ -16,7 +17,7 @@ fn contains_nul(text: &[u8]) -> bool
 }
 
 fn nonempty(text: Option<&str>) -> Option<&str>
-    ensures { option_map (λ t. t.now) result ≡ filled (option_map (λ t. t.now) text.entry) }
+    ensures { text_in result ≡ filled (text_in text.entry) }
 {
     match text {
         Some(text) if !text.is_empty() => Some(text),
@@ -26,7 +27,7 @@ fn nonempty(text: Option<&str>) -> Option<&str>
 
 /// The text of an option of the storage. An empty text is none.
 pub(crate) fn stored_in<'a>(ini: &'a Ini, option: &str) -> Option<&'a str>
-    ensures { option_map (λ t. t.now) result ≡ stored ini.entry.now option.now }
+    ensures { text_in result ≡ stored ini.entry.now option.now }
 {
     nonempty(ini.value("storage", option))
 }
@@ -37,7 +38,7 @@ pub(crate) fn stored_over<'a>(
     over: &'a Option<String>,
     option: &str,
 ) -> Option<&'a str>
-    ensures { option_map (λ t. t.now) result ≡ text_at ini.entry.now
+    ensures { text_in result ≡ text_at ini.entry.now
         (option_map string_bytes over.entry.now) (codes "storage") option.now }
 {
     match over {
@@ -65,7 +66,8 @@ fn unless_bad(
     option: &'static str,
 ) -> Result<String, ConfigError>
     ensures ok { IfOk result (λ copy. (is_bad ≡ false) × (string_bytes copy ≡ text.now)) }
-    ensures err { IfErr result (Blames (if is_bad then Some (bad_name option.entry.now) else None)) }
+    ensures err { IfErr result
+        (Blames (if is_bad then Some (bad_name option.entry.now) else None)) }
 {
     if is_bad {
         return Err(ConfigError::BadName { option });
@@ -75,8 +77,8 @@ fn unless_bad(
 
 /// The provider is there and is `local`.
 pub(crate) fn check_provider(alloc: Global, text: Option<&str>) -> Result<(), ConfigError>
-    ensures ok { OnOk result (provider_fault (option_map (λ t. t.now) text.entry) ≡ None) }
-    ensures err { IfErr result (Blames (provider_fault (option_map (λ t. t.now) text.entry))) }
+    ensures ok { OnOk result (provider_fault (text_in text.entry) ≡ None) }
+    ensures err { IfErr result (Blames (provider_fault (text_in text.entry))) }
 {
     let Some(text) = text else {
         return Err(ConfigError::MissingOption {
@@ -92,11 +94,11 @@ pub(crate) fn check_provider(alloc: Global, text: Option<&str>) -> Result<(), Co
 
 /// The path of the storage.
 pub(crate) fn base_of(alloc: Global, text: Option<&str>) -> Result<String, ConfigError>
-    ensures ok { IfOk result (λ base. Some (string_bytes base) ≡ option_map (λ t. t.now) text.entry) }
+    ensures ok { IfOk result (λ base. Some (string_bytes base) ≡ text_in text.entry) }
     ensures fits { OnOk result (required_fault (codes "base_path") has_nul
-        (option_map (λ t. t.now) text.entry) ≡ None) }
+        (text_in text.entry) ≡ None) }
     ensures err { IfErr result (Blames (required_fault (codes "base_path") has_nul
-        (option_map (λ t. t.now) text.entry))) }
+        (text_in text.entry))) }
 {
     let Some(text) = text else {
         return Err(ConfigError::MissingOption {
@@ -108,11 +110,11 @@ pub(crate) fn base_of(alloc: Global, text: Option<&str>) -> Result<String, Confi
 
 /// The name of the bucket: a component that begins with no dot.
 pub(crate) fn bucket_of(alloc: Global, text: Option<&str>) -> Result<String, ConfigError>
-    ensures ok { IfOk result (λ name. Some (string_bytes name) ≡ option_map (λ t. t.now) text.entry) }
+    ensures ok { IfOk result (λ name. Some (string_bytes name) ≡ text_in text.entry) }
     ensures fits { OnOk result (required_fault (codes "bucket_name") is_bad_bucket
-        (option_map (λ t. t.now) text.entry) ≡ None) }
+        (text_in text.entry) ≡ None) }
     ensures err { IfErr result (Blames (required_fault (codes "bucket_name") is_bad_bucket
-        (option_map (λ t. t.now) text.entry))) }
+        (text_in text.entry))) }
 {
     let option = "bucket_name";
     let Some(text) = text else {
@@ -128,11 +130,11 @@ pub(crate) fn bucket_of(alloc: Global, text: Option<&str>) -> Result<String, Con
 /// The layout under the prefix.
 pub(crate) fn layout_of(alloc: Global, text: Option<&str>) -> Result<Layout, ConfigError>
     ensures ok { IfOk result (λ layout. layout
-        ≡ before_of (unwrap_or (option_map (λ t. t.now) text.entry) [])) }
+        ≡ before_of (unwrap_or (text_in text.entry) [])) }
     ensures fits { OnOk result (optional_fault (codes "prefix") is_bad_prefix
-        (option_map (λ t. t.now) text.entry) ≡ None) }
+        (text_in text.entry) ≡ None) }
     ensures err { IfErr result (Blames (optional_fault (codes "prefix") is_bad_prefix
-        (option_map (λ t. t.now) text.entry))) }
+        (text_in text.entry))) }
 {
     let Some(text) = text else {
         return Ok(Layout::plain(alloc));
@@ -146,11 +148,11 @@ pub(crate) fn layout_of(alloc: Global, text: Option<&str>) -> Result<Layout, Con
 
 /// The node.
 pub(crate) fn node_of(alloc: Global, text: Option<&str>) -> Result<Fqdn, ConfigError>
-    ensures ok { IfOk result (λ node. Some node ≡ option_map (λ t. t.now) text.entry) }
+    ensures ok { IfOk result (λ node. Some node ≡ text_in text.entry) }
     ensures fits { OnOk result (required_fault (codes "fqdn") is_bad_node
-        (option_map (λ t. t.now) text.entry) ≡ None) }
+        (text_in text.entry) ≡ None) }
     ensures err { IfErr result (Blames (required_fault (codes "fqdn") is_bad_node
-        (option_map (λ t. t.now) text.entry))) }
+        (text_in text.entry))) }
 {
     let Some(text) = text else {
         return Err(ConfigError::MissingOption { option: "fqdn" });

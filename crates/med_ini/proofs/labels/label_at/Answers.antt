@@ -1,4 +1,4 @@
-use Rattle.std.proofs.Common.{◌≡◌, ap, sym, map, rules, List}
+use Rattle.std.proofs.Common.{◌≡◌, ap, sym, map, rules}
 use Rattle.med_ini.specs.Labels.{section_name}
 use Rattle.med_ini.specs.LabelViews.{place_view, named_view}
 use Rattle.med_ini.proofs.LabelLemmas.{option_fault_as}

@@ -1,4 +1,4 @@
-use Rattle.std.proofs.Common.{◌≡◌, ◌∙◌, ◌∷◌, ap, ap₂, sym, position, ℕ, List}
+use Rattle.std.proofs.Common.{◌∙◌, ◌∷◌, ap, ap₂, sym, position, ℕ, List}
 use Rattle.med_base.proofs.Cuts.{cut_some, cut_none}
 use Rattle.med_ini.specs.Lines.{is_feed, lines_of}
 use Rattle.med_ini.proofs.lines.cut_line.Goals as goal

@@ -1,4 +1,4 @@
-use Rattle.std.proofs.Common.{◌≡◌, ◌∙◌, ◌++◌, ◌∷◌, [], List, map, length, option_map, ap, sym, subst, arith, append_assoc, rules}
+use Rattle.std.proofs.Common.{◌≡◌, ◌∙◌, ◌++◌, ◌∷◌, [], List, map, option_map, ap, sym, subst, arith, append_assoc, rules}
 use Rattle.std.proofs.lemmas.List.{map-append, length-map}
 use Rattle.med_base.specs.Cut.{pieces_left}
 use Rattle.med_ini.specs.LabelViews.{label_view, place_view}
@@ -37,7 +37,8 @@ lines-preserved c =
     ∙ ap (λ r. inv.0 ++ pieces_left 10 (option_map (λ s. s.now) r)) c.in-Some.is
     ∙ ap (λ (ls : List Line). inv.0 ++ ls) c.cut_line.ensures.lines
     ∙ sym (append_assoc inv.0 (line ∷ []) left) in
-    let pushed : c.push.new.self.items ≡ c.lines.labels.items ++ c.in-Ok.label ∷ [] = search rules in
+    let pushed : c.push.new.self.items ≡ c.lines.labels.items ++ c.in-Ok.label ∷ [] =
+    search rules in
     let labels_are : map label_view c.push.new.self.items
     ≡ map label_view c.lines.labels.items ++ label_view c.in-Ok.label ∷ [] =
     ap (map label_view) pushed ∙ map-append label_view c.lines.labels.items (c.in-Ok.label ∷ [])
