@@ -1,5 +1,5 @@
 // Texts in the ini form and their near misses, written by hand from the rules.
-use crate::{IniError, IniKind, read_ini};
+use crate::{IniError, IniKind, one_reading, read_ini};
 use std::alloc::Global;
 use std::test::Fail;
 
@@ -160,6 +160,7 @@ fn a_byte_that_is_no_text_comes_before_other_faults(rt: HostRuntime) -> Result<(
     ] {
         assert_eq!(rt; told(rt.alloc(), bytes, "a", "x")?.as_str(), expected);
     }
+    one_reading();
     let kind = IniKind::NotUtf8;
     let error = read_ini(rt.alloc(), b"\n\xff").err();
     assert_eq!(rt; error, Some(IniError::Fault { line: 2, kind }));
