@@ -1,0 +1,186 @@
+-- What the walk keeps of the uses so far, and how it finds an option of the table.
+use Rattle.std.proofs.Common.{◌≡◌, ◌∙◌, ◌&&◌, ◌||◌, ℕ, Bool, cond, true, false, not, refl, ap, List, [], ◌∷◌, ◌++◌, map, Option, Some, None, codes, true≢false, append-nil}
+use Rattle.std.specs.List.{find}
+use Rattle.std.specs.Option.{option_map}
+use Rattle.std.specs.Str.{bytes_eq}
+use Rattle.std.proofs.lemmas.Slice.Eq.{bytes_eq-Decides}
+use Rattle.clap.specs.Lexer.{has_byte}
+use Rattle.clap.specs.Walk.{Names, answers_to, Row, Rule, arg_by_id, arg_by_long, at_row, has_row, used, more_values}
+use Rattle.clap.specs.Values.{reading_of}
+use Rattle.clap.specs.Simple.{Shape, filled_from}
+use Rattle.clap.specs.declared.builder.action.ArgAction.TheVariants.{Set, SetTrue}
+use Rattle.clap.specs.declared.builder.value_parser.ValueParser.TheVariants as vp
+use Rattle.clap.specs.declared.parser.matches.ValueSource.TheVariants.{CommandLine}
+use Rattle.med_words.specs.Grammar.{Text, Opt, valued, flag, Use, alone, joined, apart, opt_of, is_used}
+use Rattle.med_words.specs.Built.{raw_rule, raw_shape}
+
+abbrev pub value_rule : Text → Bool → Rule
+value_rule n q = record {
+  id = n;
+  long = Some n;
+  aliases = [];
+  short = None;
+  short_aliases = [];
+  index = None;
+  action = Some Set;
+  range = Some (record { start_inclusive = 1; end_inclusive = 1 });
+  value_names = 0;
+  defaults = [];
+  missing = [];
+  trailing_var_arg = false;
+  parser = Some vp.String;
+  ignore_case = false;
+  required = q;
+  is_simple = true;
+  is_free = true;
+}
+
+abbrev pub flag_rule : Text → Rule
+flag_rule n = record {
+  id = n;
+  long = Some n;
+  aliases = [];
+  short = None;
+  short_aliases = [];
+  index = None;
+  action = Some SetTrue;
+  range = Some (record { start_inclusive = 0; end_inclusive = 0 });
+  value_names = 0;
+  defaults = codes "false" ∷ [];
+  missing = codes "true" ∷ [];
+  trailing_var_arg = false;
+  parser = Some vp.Bool;
+  ignore_case = false;
+  required = false;
+  is_simple = true;
+  is_free = true;
+}
+
+abbrev pub rule_for : Opt → Rule
+rule_for (valued n q) = value_rule n q
+rule_for (flag n) = flag_rule n
+
+abbrev pub rules : List Opt → List Rule
+rules table = map rule_for table
+
+-- what building makes of the table
+pub rules_filled : (i : ℕ) (table : List Opt) → filled_from i (map raw_rule table) ≡ rules table
+rules_filled i [] = refl
+rules_filled i (valued n q ∷ rest) = ap (λ rs. value_rule n q ∷ rs) (rules_filled i rest)
+rules_filled i (flag n ∷ rest) = ap (λ rs. flag_rule n ∷ rs) (rules_filled i rest)
+
+-- a level: its name, and the subcommands that it has, of which none begins with a hyphen
+pub record Level : Type 0 where
+  pub name : Text
+  pub is_leaf : Bool
+  pub names : Names
+  pub no_sub : (rest : Text) → find (answers_to (45 ∷ rest)) names ≡ None
+
+abbrev pub leaf : Level → List Rule → Shape
+leaf l rs = record (raw_shape l.name [])
+    { rules = rs; is_built = true; is_leaf = l.is_leaf; subcommand_required = not l.is_leaf }
+
+-- ---- look-ups
+
+abbrev pub named : List Opt → Text → Option Opt
+named = opt_of
+
+pub by_long : (table : List Opt) (n : Text)
+    → arg_by_long (rules table) n ≡ option_map rule_for (named table n)
+by_long [] n = refl
+by_long (valued m q ∷ rest) n = go (bytes_eq m n) (by_long rest n)
+  where
+    go : (b : Bool) → arg_by_long (rules rest) n ≡ option_map rule_for (named rest n)
+        → cond (not false && (b || false)) (Some (value_rule m q)) (arg_by_long (rules rest) n)
+        ≡ option_map rule_for (cond b (Some (valued m q)) (named rest n))
+    go true h = refl
+    go false h = h
+by_long (flag m ∷ rest) n = go (bytes_eq m n) (by_long rest n)
+  where
+    go : (b : Bool) → arg_by_long (rules rest) n ≡ option_map rule_for (named rest n)
+        → cond (not false && (b || false)) (Some (flag_rule m)) (arg_by_long (rules rest) n)
+        ≡ option_map rule_for (cond b (Some (flag m)) (named rest n))
+    go true h = refl
+    go false h = h
+
+pub by_id : (table : List Opt) (n : Text)
+    → arg_by_id (rules table) n ≡ option_map rule_for (named table n)
+by_id [] n = refl
+by_id (valued m q ∷ rest) n = go (bytes_eq m n) (by_id rest n)
+  where
+    go : (b : Bool) → arg_by_id (rules rest) n ≡ option_map rule_for (named rest n)
+        → cond b (Some (value_rule m q)) (arg_by_id (rules rest) n)
+        ≡ option_map rule_for (cond b (Some (valued m q)) (named rest n))
+    go true h = refl
+    go false h = h
+by_id (flag m ∷ rest) n = go (bytes_eq m n) (by_id rest n)
+  where
+    go : (b : Bool) → arg_by_id (rules rest) n ≡ option_map rule_for (named rest n)
+        → cond b (Some (flag_rule m)) (arg_by_id (rules rest) n)
+        ≡ option_map rule_for (cond b (Some (flag m)) (named rest n))
+    go true h = refl
+    go false h = h
+
+pub same_bytes : (a b : Text) → bytes_eq a b ≡ true → a ≡ b
+same_bytes a b e = (bytes_eq-Decides a b).0 e
+
+pub bytes_same : (a : Text) → bytes_eq a a ≡ true
+bytes_same a = (bytes_eq-Decides a a).1 refl
+
+-- ---- rows
+
+abbrev pub row_with : Text → vp.the_data → List Text → Row
+row_with n p values =
+    record {
+      id = n;
+      values = values;
+      count = None;
+      source = Some CommandLine;
+      reading = reading_of
+          p;
+    }
+
+abbrev pub row_for : Use → Row
+row_for (alone n) = row_with n vp.Bool (codes "true" ∷ [])
+row_for (joined n v) = row_with n vp.String (v ∷ [])
+row_for (apart n v) = row_with n vp.String (v ∷ [])
+
+abbrev pub rows : List Use → List Row
+rows us = map row_for us
+
+pub has_row_is : (n : Text) (us : List Use) → has_row n (rows us) ≡ is_used n us
+has_row_is n [] = refl
+has_row_is n (alone m ∷ us) = ap (λ b. bytes_eq m n || b) (has_row_is n us)
+has_row_is n (joined m v ∷ us) = ap (λ b. bytes_eq m n || b) (has_row_is n us)
+has_row_is n (apart m v ∷ us) = ap (λ b. bytes_eq m n || b) (has_row_is n us)
+
+pub at_absent : (id : Text) (change : Row → List Row) (missing rs : List Row)
+    → has_row id rs ≡ false → at_row id change missing rs ≡ rs ++ missing
+at_absent id change missing [] e = refl
+at_absent id change missing (r ∷ rs) e = go (bytes_eq r.id id) (at_absent id change missing rs) e
+  where
+    go : (b : Bool) → (has_row id rs ≡ false → at_row id change missing rs ≡ rs ++ missing)
+        → (b || has_row id rs) ≡ false → cond b (change r ++ rs) (r ∷ at_row id change missing rs)
+        ≡ r ∷ (rs ++ missing)
+    go true more h = absurd (true≢false h)
+    go false more h = ap (λ xs. r ∷ xs) (more h)
+
+with_new : (id : Text) (change again : Row → List Row) (new : Row) (rs : List Row)
+    → has_row id rs ≡ false → at_row id change (new ∷ []) (at_row id again [] rs) ≡ rs ++ new ∷ []
+with_new id change again new rs e =
+    let gone : at_row id again [] rs ≡ rs = at_absent id again [] rs e ∙ append-nil rs in
+    ap (at_row id change (new ∷ [])) gone ∙ at_absent id change (new ∷ []) rs e
+
+pub used_value : (n v : Text) (q : Bool) (rs : List Row) → has_row n rs ≡ false
+    → used (value_rule n q) (v ∷ []) rs ≡ rs ++ row_with n vp.String (v ∷ []) ∷ []
+used_value n v q rs e = with_new n (more_values CommandLine (v ∷ [])) (λ _. [])
+    (row_with n vp.String (v ∷ [])) rs e
+
+pub used_flag : (n : Text) (rs : List Row) → has_row n rs ≡ false
+    → used (flag_rule n) [] rs ≡ rs ++ row_with n vp.Bool (codes "true" ∷ []) ∷ []
+used_flag n rs e = with_new n (more_values CommandLine (codes "true" ∷ [])) (λ _. [])
+    (row_with n vp.Bool (codes "true" ∷ [])) rs e
+
+abbrev pub IsGoodName : Text → Type 0
+IsGoodName [] = ⊥
+IsGoodName (z ∷ zs) = has_byte 61 (z ∷ zs) ≡ false

@@ -1,0 +1,10 @@
+pub mod Grammar
+pub mod Passes
+pub mod Tables
+pub mod Built
+pub mod Said
+pub mod Values
+pub mod Request
+pub mod Matched
+pub mod Views
+pub mod Blames

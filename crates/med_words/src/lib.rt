@@ -1,0 +1,25 @@
+//! The command line: from its words to a request.
+//!
+//! The words are read by `clap`, over tables of options that are data. A request is made exactly of
+//! words that the grammar spells, and that ask for it; a refusal says why none is.
+//! Read `specs/Grammar.antt` and `specs/Request.antt` first.
+#![tactic(auto)]
+
+mod app;
+mod command;
+mod laws;
+mod line;
+mod passing;
+mod read;
+mod request;
+mod table;
+mod values;
+
+pub use laws::one_request;
+pub use read::read_words;
+pub use request::{Command, Request, Usage, WordsError};
+
+#[cfg(test)]
+mod request_tests;
+#[cfg(test)]
+mod tests;

@@ -1,0 +1,154 @@
+// The words of a line, read by clap.
+ghost use Rattle.std.specs.Prelude.{◌≡◌, Bool, List, IfOk, IsErrOf, map, string_bytes, codes, option_map};
+ghost use Rattle.std.specs.List.{AllByRecursion};
+ghost use Rattle.clap.specs.Words.{found_of};
+ghost use Rattle.clap.specs.Walk.{first_of, one_of, rows_of};
+ghost use Rattle.med_words.specs.Grammar.{Text, Use, IsLine};
+ghost use Rattle.med_words.specs.Passes.{Passes};
+ghost use Rattle.med_words.specs.Matched.{IsMatched, FlagRow, main_rows, own_rows};
+ghost use Rattle.med_words.specs.Tables.{main_options, commands};
+ghost use Rattle.med_words.specs.Views.{main_view, own_view, HasLine};
+
+use crate::app::command;
+use crate::passing::all_pass;
+use clap::ArgMatches;
+use clap::error::ErrorKind;
+use std::alloc::Global;
+
+/// What the main options say.
+#[derive(Clone, Copy, Debug)]
+pub(crate) struct Main<'a> {
+    pub(crate) config_file: Option<&'a str>,
+    pub(crate) bucket: Option<&'a str>,
+    pub(crate) prefix: Option<&'a str>,
+    pub(crate) fqdn: Option<&'a str>,
+}
+
+/// What the options of the command word say.
+#[derive(Clone, Copy, Debug)]
+pub(crate) struct Own<'a> {
+    pub(crate) name: Option<&'a str>,
+    pub(crate) mode: Option<&'a str>,
+    pub(crate) workers: Option<&'a str>,
+    pub(crate) rounds: Option<&'a str>,
+    pub(crate) destination: Option<&'a str>,
+    pub(crate) host_list: Option<&'a str>,
+    pub(crate) jobs_file: Option<&'a str>,
+    pub(crate) all_nodes: bool,
+    pub(crate) show_all: bool,
+}
+
+/// A command word, and what the options on both sides of it say.
+#[derive(Clone, Copy, Debug)]
+pub(crate) struct Line<'a> {
+    pub(crate) main: Main<'a>,
+    pub(crate) word: &'a str,
+    pub(crate) own: Own<'a>,
+}
+
+/// Why no line was read.
+#[derive(Clone, Copy, Debug, PartialEq, Eq)]
+pub(crate) enum LineError {
+    /// The words are no line.
+    Line,
+    Memory,
+}
+
+/// The matches of words of which each may be handed on.
+fn matched<'a>(alloc: Global, words: &'a [String]) -> Result<ArgMatches<'a>, LineError>
+    requires { AllByRecursion Passes (map string_bytes words.now) }
+    ensures ok { IfOk result
+        (λ m. IsMatched main_options commands (map string_bytes words.entry.now) m) }
+    ensures line { IsErrOf result LineError.Line → (main own : List Use) (word : Text)
+        → IsLine main_options commands (map string_bytes words.entry.now) main word own → ⊥ }
+{
+    let Ok(command) = command(alloc) else {
+        return Err(LineError::Memory);
+    };
+    match command.try_get_matches_from(words) {
+        Ok(matches) => Ok(matches),
+        Err(error) => Err(if error.kind() == ErrorKind::OutOfMemory {
+            LineError::Memory
+        } else {
+            LineError::Line
+        }),
+    }
+}
+
+/// The value of an option.
+fn value_of<'a>(matches: &ArgMatches<'a>, name: &str) -> Option<&'a str>
+    ensures { option_map (λ s. s.now) result ≡ first_of name.now (rows_of (found_of matches.now)) }
+{
+    matches.get_str(name)
+}
+
+/// Whether a flag stands.
+fn is_used(matches: &ArgMatches<'_>, name: &str) -> bool
+    ensures { (b : Bool) → FlagRow b (one_of name.now (rows_of (found_of matches.now)))
+        → result ≡ b }
+{
+    matches.get_flag(name)
+}
+
+/// What the matches of the main options say.
+fn main_of<'a>(matches: &ArgMatches<'a>) -> Main<'a>
+    ensures { main_view result ≡ main_rows (rows_of (found_of matches.now)) }
+{
+    Main {
+        config_file: value_of(matches, "config-file"),
+        bucket: value_of(matches, "bucket-name"),
+        prefix: value_of(matches, "prefix"),
+        fqdn: value_of(matches, "fqdn"),
+    }
+}
+
+/// What the matches of a command's options say.
+fn own_of<'a>(matches: &ArgMatches<'a>) -> Own<'a>
+    ensures { (all_nodes show_all : Bool)
+        → FlagRow all_nodes (one_of (codes "all-nodes") (rows_of (found_of matches.now)))
+        → FlagRow show_all (one_of (codes "show-all") (rows_of (found_of matches.now)))
+        → own_view result ≡ own_rows (rows_of (found_of matches.now)) all_nodes show_all }
+{
+    Own {
+        name: value_of(matches, "backup-name"),
+        mode: value_of(matches, "mode"),
+        workers: value_of(matches, "workers"),
+        rounds: value_of(matches, "rounds"),
+        destination: value_of(matches, "download-destination"),
+        host_list: value_of(matches, "host-list"),
+        jobs_file: value_of(matches, "jobs-file"),
+        all_nodes: is_used(matches, "all-nodes"),
+        show_all: is_used(matches, "show-all"),
+    }
+}
+
+/// The line that these are the matches of.
+fn line_of<'a>(matches: &ArgMatches<'a>) -> Line<'a>
+    requires { (words : List Text) × IsMatched main_options commands words matches.now }
+    ensures { (words : List Text) → IsMatched main_options commands words matches.now
+        → HasLine words result }
+{
+    let Some((word, own)) = matches.subcommand() else {
+        unreachable!();
+    };
+    Line {
+        main: main_of(matches),
+        word,
+        own: own_of(own),
+    }
+}
+
+/// The line that the words are.
+pub(crate) fn read_line<'a>(alloc: Global, words: &'a [String]) -> Result<Line<'a>, LineError>
+    ensures ok { IfOk result (HasLine (map string_bytes words.entry.now)) }
+    ensures line { IsErrOf result LineError.Line → (main own : List Use) (word : Text)
+        → IsLine main_options commands (map string_bytes words.entry.now) main word own → ⊥ }
+{
+    if !all_pass(words) {
+        return Err(LineError::Line);
+    }
+    match matched(alloc, words) {
+        Ok(matches) => Ok(line_of(&matches)),
+        Err(error) => Err(error),
+    }
+}

@@ -1,0 +1,113 @@
+// The tables of the command line: the main options, and a row for each command word.
+ghost use Rattle.std.specs.Prelude.{◌≡◌, map};
+ghost use Rattle.med_words.specs.Views.{opt_view, row_view};
+ghost use Rattle.med_words.specs.Tables.{main_options, commands};
+
+/// An option by its name: one with a value, which has to stand or may be left out, or a flag.
+#[derive(Clone, Copy, Debug)]
+pub(crate) enum Opt<'a> {
+    Required(&'a str),
+    Optional(&'a str),
+    Flag(&'a str),
+}
+
+/// A command word with its options.
+#[derive(Clone, Copy, Debug)]
+pub(crate) struct Row<'a> {
+    pub(crate) word: &'a str,
+    pub(crate) options: &'a [Opt<'a>],
+}
+
+const NAME: Opt<'static> = Opt::Required("backup-name");
+
+static MAIN: [Opt<'static>; 4] = [
+    Opt::Optional("config-file"),
+    Opt::Optional("bucket-name"),
+    Opt::Optional("prefix"),
+    Opt::Optional("fqdn"),
+];
+
+static COMMANDS: [Row<'static>; 17] = [
+    Row {
+        word: "backup",
+        options: &[NAME, Opt::Optional("mode")],
+    },
+    Row {
+        word: "backup-cluster",
+        options: &[NAME, Opt::Optional("mode"), Opt::Optional("workers")],
+    },
+    Row {
+        word: "build-index",
+        options: &[],
+    },
+    Row {
+        word: "delete-backup",
+        options: &[NAME, Opt::Flag("all-nodes")],
+    },
+    Row {
+        word: "download",
+        options: &[NAME, Opt::Required("download-destination")],
+    },
+    Row {
+        word: "fetch-tokenmap",
+        options: &[NAME],
+    },
+    Row {
+        word: "get-last-complete-cluster-backup",
+        options: &[],
+    },
+    Row {
+        word: "list-backups",
+        options: &[Opt::Flag("show-all")],
+    },
+    Row {
+        word: "purge",
+        options: &[],
+    },
+    Row {
+        word: "purge-decommissioned",
+        options: &[],
+    },
+    Row {
+        word: "report-last-backup",
+        options: &[],
+    },
+    Row {
+        word: "restore-cluster",
+        options: &[NAME, Opt::Required("host-list")],
+    },
+    Row {
+        word: "restore-node",
+        options: &[NAME],
+    },
+    Row {
+        word: "status",
+        options: &[NAME],
+    },
+    Row {
+        word: "verify",
+        options: &[NAME],
+    },
+    Row {
+        word: "jobs",
+        options: &[Opt::Required("jobs-file")],
+    },
+    Row {
+        word: "rehearse",
+        options: &[Opt::Required("rounds")],
+    },
+];
+
+/// The options before the command word.
+pub(crate) fn main_table() -> &'static [Opt<'static>]
+    ensures { map opt_view result.now ≡ main_options }
+{
+    &MAIN
+}
+
+/// Each command word with its options.
+pub(crate) fn command_table() -> &'static [Row<'static>]
+    ensures { map row_view result.now ≡ commands }
+{
+    &COMMANDS
+}
