@@ -20,10 +20,10 @@ run:
 		exit 1
 	fi
 	medusa=$$PWD/crates/medusa/out/medusa
-	mkdir "$$room/node"
-	cp -r crates/medusa/data/. "$$room/node"
-	cd "$$room/node"
-	"$$medusa" backup --backup-name b1 --mode full
-	find b -type f | LC_ALL=C sort
-	cat b/k/n1/b1/meta/manifest.json
+	mkdir "$$room/example"
+	cp -r crates/medusa/data/. "$$room/example"
+	cd "$$room/example"
+	"$$medusa" --config-file medusa.ini backup --backup-name b1 --mode full
+	find bucket -type f | LC_ALL=C sort
+	cat bucket/backups/n1/b1/meta/manifest.json
 	echo

@@ -4,8 +4,8 @@ use Rattle.med_base.specs.declared.key.FileKey.{FileKey}
 use Rattle.med_base.specs.Content.{Content}
 use Rattle.med_manifest.specs.declared.manifest.FileRecord.{FileRecord}
 use Rattle.med_outside.specs.Snapshot.{Snapshot}
-use Rattle.med_outside.specs.State.{State, Passes}
-use Rattle.med_outside.proofs.Passing.{passes_on, after_all-nothing}
+use Rattle.med_outside.specs.State.{State, Passes, Moves}
+use Rattle.med_outside.proofs.Passing.{moves_on, after_all-nothing}
 use Rattle.med_commands.specs.Answers.{IsCaused, IsCausedOf, IsFound, IsCopied, IsMade, IsCutShort, Leaves}
 use Rattle.med_commands.specs.Copies.{backup_puts}
 use Rattle.med_commands.specs.Taken.{IsFree}
@@ -63,7 +63,7 @@ caused_by_snap nb nm nn fresh snap sb sm sn later zero_is sum s (Fault Memory) r
 module _ (before f n : List ℕ) (held : Option Snapshot) where
   pub copied_after : (order : List FileKey) (schema : List ℕ) (s0 s1 s2 : State)
       (p0 p1 p2 : ℕ → Content → Type 0) (files : List FileRecord)
-      → Passes [] s0 s1 p0 p1 → IsCopied before f n held order schema s1 s2 p1 p2 files
+      → Moves [] s0 s1 p0 p1 → IsCopied before f n held order schema s1 s2 p1 p2 files
       → IsCopied before f n held order schema s0 s2 p0 p2 files
   copied_after order schema s0 s1 s2 p0 p1 p2 files first c = record {
     at = c.at;
@@ -73,55 +73,55 @@ module _ (before f n : List ℕ) (held : Option Snapshot) where
     bytes_are = c.bytes_are;
     files_are = c.files_are;
     manifest_is = c.manifest_is;
-    passes = passes_on [] (backup_puts before f n schema c.at c.copies c.end) s0 s1 s2 p0 p1 p2
-        first c.passes;
+    moves = moves_on [] (backup_puts before f n schema c.at c.copies c.end) s0 s1 s2 p0 p1 p2
+        first c.moves;
   }
 
   pub made_after : (s0 s1 s2 : State) (p0 p1 p2 : ℕ → Content → Type 0) (files : List FileRecord)
-      → Passes [] s0 s1 p0 p1 → IsMade before f n held s1 s2 p1 p2 files
+      → Moves [] s0 s1 p0 p1 → IsMade before f n held s1 s2 p1 p2 files
       → IsMade before f n held s0 s2 p0 p2 files
   made_after s0 s1 s2 p0 p1 p2 files first m = record {
     order = m.order;
     schema = m.schema;
     found = subst (λ (c : Option Content). IsFound before f n held c m.order m.schema)
-        (same_content s0 s1 p0 p1 first) m.found;
+        (same_content s0 s1 p0 p1 first.passes) m.found;
     copied = copied_after m.order m.schema s0 s1 s2 p0 p1 p2 files first m.copied;
   }
 
-  pub cut_after : (s0 s1 s2 : State) (p0 p1 p2 : ℕ → Content → Type 0) → Passes [] s0 s1 p0 p1
+  pub cut_after : (s0 s1 s2 : State) (p0 p1 p2 : ℕ → Content → Type 0) → Moves [] s0 s1 p0 p1
       → IsCutShort before f n held s1 s2 p1 p2 → IsCutShort before f n held s0 s2 p0 p2
   cut_after s0 s1 s2 p0 p1 p2 first c = record {
     done = c.done;
     begun = c.begun;
     was_free = subst (λ (told : Option Content). (c.done ≡ []) ⊎ IsFree before f n told)
-        (same_content s0 s1 p0 p1 first) c.was_free;
-    passes = passes_on [] c.done s0 s1 s2 p0 p1 p2 first c.passes;
+        (same_content s0 s1 p0 p1 first.passes) c.was_free;
+    moves = moves_on [] c.done s0 s1 s2 p0 p1 p2 first c.moves;
   }
 
-  pub nothing_cut : (s0 s1 : State) (p0 p1 : ℕ → Content → Type 0) → Passes [] s0 s1 p0 p1
+  pub nothing_cut : (s0 s1 : State) (p0 p1 : ℕ → Content → Type 0) → Moves [] s0 s1 p0 p1
       → IsCutShort before f n held s0 s1 p0 p1
-  nothing_cut s0 s1 p0 p1 passes = record {
+  nothing_cut s0 s1 p0 p1 moves = record {
     done = [];
     begun = any_begun before f n held;
     was_free = inl refl;
-    passes = passes;
+    moves = moves;
   }
 
   -- nothing was put, whatever the refusal
-  pub nothing_left : (s0 s1 : State) (p0 p1 : ℕ → Content → Type 0) → Passes [] s0 s1 p0 p1
+  pub nothing_left : (s0 s1 : State) (p0 p1 : ℕ → Content → Type 0) → Moves [] s0 s1 p0 p1
       → (refusal : Refusal) → Leaves before f n held s0 s1 p0 p1 refusal
-  nothing_left s0 s1 p0 p1 passes NoSnapshot = passes
-  nothing_left s0 s1 p0 p1 passes (BadFileName at) = passes
-  nothing_left s0 s1 p0 p1 passes (Taken path) = passes
-  nothing_left s0 s1 p0 p1 passes (Fault fault) = nothing_cut s0 s1 p0 p1 passes
+  nothing_left s0 s1 p0 p1 moves NoSnapshot = moves
+  nothing_left s0 s1 p0 p1 moves (BadFileName at) = moves
+  nothing_left s0 s1 p0 p1 moves (Taken path) = moves
+  nothing_left s0 s1 p0 p1 moves (Fault fault) = nothing_cut s0 s1 p0 p1 moves
 
-  pub leaves_after : (s0 s1 s2 : State) (p0 p1 p2 : ℕ → Content → Type 0) → Passes [] s0 s1 p0 p1
+  pub leaves_after : (s0 s1 s2 : State) (p0 p1 p2 : ℕ → Content → Type 0) → Moves [] s0 s1 p0 p1
       → (refusal : Refusal)
       → Leaves before f n held s1 s2 p1 p2 refusal → Leaves before f n held s0 s2 p0 p2 refusal
-  leaves_after s0 s1 s2 p0 p1 p2 first NoSnapshot passes = passes_on [] [] s0 s1 s2 p0 p1 p2 first
-      passes
-  leaves_after s0 s1 s2 p0 p1 p2 first (BadFileName at) passes = passes_on [] [] s0 s1 s2 p0 p1 p2
-      first passes
-  leaves_after s0 s1 s2 p0 p1 p2 first (Taken path) passes = passes_on [] [] s0 s1 s2 p0 p1 p2 first
-      passes
+  leaves_after s0 s1 s2 p0 p1 p2 first NoSnapshot moves = moves_on [] [] s0 s1 s2 p0 p1 p2 first
+      moves
+  leaves_after s0 s1 s2 p0 p1 p2 first (BadFileName at) moves = moves_on [] [] s0 s1 s2 p0 p1 p2
+      first moves
+  leaves_after s0 s1 s2 p0 p1 p2 first (Taken path) moves = moves_on [] [] s0 s1 s2 p0 p1 p2 first
+      moves
   leaves_after s0 s1 s2 p0 p1 p2 first (Fault fault) cut = cut_after s0 s1 s2 p0 p1 p2 first cut

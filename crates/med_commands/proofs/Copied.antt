@@ -16,8 +16,8 @@ use Rattle.med_manifest.specs.Manifest.{IsManifest, IsPathOf}
 use Rattle.med_manifest.specs.Written.{manifest_text}
 use Rattle.med_outside.specs.Effects.{Effect, Stores}
 use Rattle.med_outside.specs.Snapshot.{Snapshot, HasKey}
-use Rattle.med_outside.specs.State.{State, Passes, Moves}
-use Rattle.med_outside.proofs.Passing.{passes_on}
+use Rattle.med_outside.specs.State.{State, Moves}
+use Rattle.med_outside.proofs.Passing.{moves_on}
 use Rattle.med_commands.specs.Answers.{CanBeCopied, IsCopied, IsCutShort}
 use Rattle.med_commands.specs.Copies.{Copy, key_of, put_of, records_of, backup_puts, AreOf, AreCopies, IsBegun}
 use Rattle.med_commands.specs.Placing.{PlacesAll, PlacesSome, MayStore}
@@ -200,13 +200,13 @@ module _ (before f n : List ℕ) (held : Option Snapshot) where
     done = [];
     begun = none_begun order schema can;
     was_free = inr free;
-    passes = moves.passes;
+    moves = moves;
   }
   schema_cut order schema old new past since can free (inr (at, moves)) = record {
     done = Stores (meta_path before f n Schema) schema at ∷ [];
     begun = some_begun order schema at [] order can refl (none_of held);
     was_free = inr free;
-    passes = moves.passes;
+    moves = moves;
   }
 
   -- the schema was put, and placing the files broke off
@@ -222,9 +222,9 @@ module _ (before f n : List ℕ) (held : Option Snapshot) where
     begun = some_begun order schema at some.places.copies some.rest can
         (some.split ∙ ap (λ l. l ++ some.rest) (sym some.places.keys_are)) some.places.bytes_are;
     was_free = inr free;
-    passes = passes_on (Stores (meta_path before f n Schema) schema at ∷ [])
-        (map (put_of before f n) some.places.copies) s0 s1 s2 p0 p1 p2 first.passes
-        some.places.moves.passes;
+    moves = moves_on (Stores (meta_path before f n Schema) schema at ∷ [])
+        (map (put_of before f n) some.places.copies) s0 s1 s2 p0 p1 p2 first
+        some.places.moves;
   }
 
   -- all puts but the last one, and the last
@@ -234,15 +234,15 @@ module _ (before f n : List ℕ) (held : Option Snapshot) where
       → Moves (map (put_of before f n) copies) s1 s2 p1 p2
       → Moves (Stores (meta_path before f n Manifest) (manifest_text (records_of before f n copies))
       end ∷ []) s2 s3 p2 p3
-      → Passes (backup_puts before f n schema at copies end) s0 s3 p0 p3
+      → Moves (backup_puts before f n schema at copies end) s0 s3 p0 p3
   all_passed schema at copies end s0 s1 s2 s3 p0 p1 p2 p3 first files last =
-      passes_on (Stores (meta_path before f n Schema) schema at ∷ [])
+      moves_on (Stores (meta_path before f n Schema) schema at ∷ [])
       (map (put_of before f n) copies ++ Stores (meta_path before f n Manifest)
       (manifest_text (records_of before f n copies)) end ∷ [])
-      s0 s1 s3 p0 p1 p3 first.passes
-      (passes_on (map (put_of before f n) copies)
+      s0 s1 s3 p0 p1 p3 first
+      (moves_on (map (put_of before f n) copies)
       (Stores (meta_path before f n Manifest) (manifest_text (records_of before f n copies)) end
-      ∷ []) s1 s2 s3 p1 p2 p3 files.passes last.passes)
+      ∷ []) s1 s2 s3 p1 p2 p3 files last)
 
   -- the put of the manifest broke off
   pub manifest_cut : (order : List FileKey) (schema : List ℕ) (at : ℕ) (files : List FileRecord)
@@ -256,15 +256,15 @@ module _ (before f n : List ℕ) (held : Option Snapshot) where
       (inl moves) =
       let copies = all.places.copies in
       let done = Stores (meta_path before f n Schema) schema at ∷ map (put_of before f n) copies in
-      let passed = passes_on (Stores (meta_path before f n Schema) schema at ∷ [])
-      (map (put_of before f n) copies) s0 s1 s2 p0 p1 p2 first.passes all.places.moves.passes in
+      let passed = moves_on (Stores (meta_path before f n Schema) schema at ∷ [])
+      (map (put_of before f n) copies) s0 s1 s2 p0 p1 p2 first all.places.moves in
       record {
         done = done;
         begun = some_begun order schema at copies [] can
             (sym all.places.keys_are ∙ sym (append-nil (map key_of copies))) all.places.bytes_are;
         was_free = inr free;
-        passes = subst (λ (l : List Effect). Passes l s0 s3 p0 p3) (append-nil done)
-            (passes_on done [] s0 s2 s3 p0 p2 p3 passed moves.passes);
+        moves = subst (λ (l : List Effect). Moves l s0 s3 p0 p3) (append-nil done)
+            (moves_on done [] s0 s2 s3 p0 p2 p3 passed moves);
       }
   manifest_cut order schema at files text s0 s1 s2 s3 p0 p1 p2 p3 can free text_is first all
       (inr (end, moves)) =
@@ -274,7 +274,7 @@ module _ (before f n : List ℕ) (held : Option Snapshot) where
         begun = all_begun order schema at copies end can (sym all.places.keys_are)
             all.places.bytes_are;
         was_free = inr free;
-        passes = all_passed schema at copies end s0 s1 s2 s3 p0 p1 p2 p3 first all.places.moves
+        moves = all_passed schema at copies end s0 s1 s2 s3 p0 p1 p2 p3 first all.places.moves
             (subst (λ (t : List ℕ). Moves (Stores (meta_path before f n Manifest) t end ∷ []) s2 s3
             p2 p3) (text_is ∙ ap manifest_text all.files_are) moves);
       }
@@ -296,7 +296,7 @@ module _ (before f n : List ℕ) (held : Option Snapshot) where
         bytes_are = all.places.bytes_are;
         files_are = all.files_are;
         manifest_is = subst (λ (t : List ℕ). IsManifest before f n t files) text_is manifest;
-        passes = all_passed schema at all.places.copies end s0 s1 s2 s3 p0 p1 p2 p3 first
+        moves = all_passed schema at all.places.copies end s0 s1 s2 s3 p0 p1 p2 p3 first
             all.places.moves
             (subst (λ (t : List ℕ). Moves (Stores (meta_path before f n Manifest) t end ∷ []) s2 s3 p2
             p3) (text_is ∙ ap manifest_text all.files_are) moves);

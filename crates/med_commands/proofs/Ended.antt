@@ -1,73 +1,74 @@
 -- What a backup that was made, and each fault, say of the whole call.
-use Rattle.std.proofs.Common.{◌≡◌, ◌⊎◌, inl, inr, ℕ, false, List, [], map, Option, Some, None, IfSome, refl, sym, ◌∙◌, subst, append-nil}
-use Rattle.std.specs.Prelude.{is_some}
+use Rattle.std.proofs.Common.{◌≡◌, ◌⊎◌, inl, inr, ℕ, true, ap, List, [], map, Option, Some, None, IfSome, refl, sym, ◌∙◌, subst, append-nil}
 use Rattle.std.specs.List.{AllByRecursion}
 use Rattle.std.specs.FinMap.{keys}
 use Rattle.med_base.specs.Content.{Content, objects_under}
 use Rattle.med_base.specs.Key.{IsKey, AreRising}
 use Rattle.med_base.specs.Layout.{backup_folder}
-use Rattle.med_base.specs.Names.{backup_fault}
 use Rattle.med_manifest.specs.declared.manifest.FileRecord.{FileRecord}
 use Rattle.med_manifest.specs.Manifest.{IsManifest}
 use Rattle.med_manifest.specs.Written.{manifest_text}
 use Rattle.med_outside.specs.Effects.{after_all}
 use Rattle.med_outside.specs.Snapshot.{Snapshot}
-use Rattle.med_outside.specs.State.{State, Passes}
-use Rattle.med_commands.specs.Answers.{IsMade, IsCutShort, BlamesLook, Leaves, IsCausedOf}
+use Rattle.med_outside.specs.State.{State, Passes, Moves, terms_of}
+use Rattle.med_outside.proofs.Passing.{passes_from_terms}
+use Rattle.med_words.specs.Request.{Asked}
+use Rattle.med_commands.specs.Answers.{IsMade, IsCutShort, BlamesLook, IsCausedOf}
 use Rattle.med_commands.specs.Backup.{IsFinished, IsBackupOf}
-use Rattle.med_commands.specs.Calls.{Call, IsFaultOf, IsUnprinted, IsEndOf}
+use Rattle.med_commands.specs.Ends.{IsFaultOf, IsUnprinted, IsEndOf}
 use Rattle.med_commands.specs.Copies.{Copy, key_of, records_of, backup_puts, AreOf, IsBegun}
 use Rattle.med_commands.specs.Fault.{fault_for}
-use Rattle.med_commands.specs.Headline.{node_name, Asks, IfTold, IsDone, HasMoments}
+use Rattle.med_commands.specs.Headline.{Stream, Around, Asks, AsksSome, is_built, IfTold, IsDone, IsBackedUp, HasMoments}
 use Rattle.med_commands.specs.Report.{report_line}
 use Rattle.med_commands.specs.Taken.{IsFree}
-use Rattle.med_commands.specs.Words.{asked_name, is_refused}
+use Rattle.med_commands.specs.Site.{Site, opened_at, snap_at, LeavesAt}
 use Rattle.med_commands.specs.declared.fault.Fault.{Fault}
-use Rattle.med_commands.specs.declared.fault.Fault.TheVariants.{Line, BadName, Taken, Read, Storage, Write, NoSnapshot, BadFileName, Memory}
+use Rattle.med_commands.specs.declared.fault.Fault.TheVariants.{Usage, NotBuilt, Config, Taken, Read, Storage, Write, NoSnapshot, BadFileName, Memory}
 use Rattle.med_commands.specs.declared.look.Refusal.{Refusal}
 use Rattle.med_commands.specs.declared.look.Refusal.TheVariants as refusal
 use Rattle.med_commands.specs.declared.place.CopyFault.TheVariants as fault
+use Rattle.med_commands.proofs.Copied.{any_begun}
 use Rattle.med_commands.proofs.Finished.{finished, backup_of}
 
 -- ---- a backup that was made is done
 
-told_finished : (n schema : List ℕ) (at end : ℕ) (copies : List Copy) (told after : Option Content)
-    → after ≡ after_all (backup_puts [] node_name n schema at copies end) told
-    → IfSome told (λ c. objects_under (backup_folder [] node_name n) c ≡ [])
+told_finished : (before f n schema : List ℕ) (at end : ℕ) (copies : List Copy) (told after : Option Content)
+    → after ≡ after_all (backup_puts before f n schema at copies end) told
+    → IfSome told (λ c. objects_under (backup_folder before f n) c ≡ [])
     → AreRising (map key_of copies) → AllByRecursion IsKey (map key_of copies)
-    → IsManifest [] node_name n (manifest_text (records_of [] node_name n copies))
-    (records_of [] node_name n copies)
-    → IfTold told after (λ c d. IsFinished [] node_name n c d (records_of [] node_name n copies))
-told_finished n schema at end copies None after is free rising names manifest = tt
-told_finished n schema at end copies (Some c) after is free rising names manifest =
+    → IsManifest before f n (manifest_text (records_of before f n copies))
+    (records_of before f n copies)
+    → IfTold told after (λ c d. IsFinished before f n c d (records_of before f n copies))
+told_finished before f n schema at end copies None after is free rising names manifest = tt
+told_finished before f n schema at end copies (Some c) after is free rising names manifest =
     subst (λ (t : Option Content). IfTold (Some c) t
-    (λ c d. IsFinished [] node_name n c d (records_of [] node_name n copies))) (sym is)
-    (finished [] node_name n schema at end c free copies rising names manifest)
+    (λ c d. IsFinished before f n c d (records_of before f n copies))) (sym is)
+    (finished before f n schema at end c free copies rising names manifest)
 
-told_backup : (n schema : List ℕ) (at end : ℕ) (copies : List Copy) (held : Option Snapshot)
+told_backup : (before f n schema : List ℕ) (at end : ℕ) (copies : List Copy) (held : Option Snapshot)
     (told after : Option Content)
-    → after ≡ after_all (backup_puts [] node_name n schema at copies end) told
-    → IfSome told (λ c. objects_under (backup_folder [] node_name n) c ≡ [])
+    → after ≡ after_all (backup_puts before f n schema at copies end) told
+    → IfSome told (λ c. objects_under (backup_folder before f n) c ≡ [])
     → AreRising (map key_of copies) → AllByRecursion IsKey (map key_of copies)
-    → IsManifest [] node_name n (manifest_text (records_of [] node_name n copies))
-    (records_of [] node_name n copies)
+    → IsManifest before f n (manifest_text (records_of before f n copies))
+    (records_of before f n copies)
     → AreOf held copies → IfSome held (λ s. map key_of copies ≡ keys s.files)
     → IfSome held (λ s. schema ≡ s.schema)
     → IfTold told after (λ c d. IfSome held
-    (λ s. IsBackupOf [] node_name n s c d (records_of [] node_name n copies)))
-told_backup n schema at end copies held None after is free rising names manifest of keys_are
+    (λ s. IsBackupOf before f n s c d (records_of before f n copies)))
+told_backup before f n schema at end copies held None after is free rising names manifest of keys_are
     schema_is = tt
-told_backup n schema at end copies None (Some c) after is free rising names manifest of keys_are
+told_backup before f n schema at end copies None (Some c) after is free rising names manifest of keys_are
     schema_is =
     subst (λ (t : Option Content). IfTold (Some c) t
-    (λ c d. IfSome None (λ s. IsBackupOf [] node_name n s c d
-    (records_of [] node_name n copies)))) (sym is) tt
-told_backup n schema at end copies (Some s) (Some c) after is free rising names manifest of keys_are
+    (λ c d. IfSome None (λ s. IsBackupOf before f n s c d
+    (records_of before f n copies)))) (sym is) tt
+told_backup before f n schema at end copies (Some s) (Some c) after is free rising names manifest of keys_are
     schema_is =
     subst (λ (t : Option Content). IfTold (Some c) t
     (λ c d. IfSome (Some s)
-    (λ s. IsBackupOf [] node_name n s c d (records_of [] node_name n copies)))) (sym is)
-    (backup_of [] node_name n schema at end c free s copies rising names manifest of keys_are
+    (λ s. IsBackupOf before f n s c d (records_of before f n copies)))) (sym is)
+    (backup_of before f n schema at end c free s copies rising names manifest of keys_are
     schema_is)
 
 and_told : {A : Type 0} (held : Option A) (P Q : A → Type 0) → ((s : A) → P s → Q s) → IfSome held P
@@ -75,168 +76,177 @@ and_told : {A : Type 0} (held : Option A) (P Q : A → Type 0) → ((s : A) → 
 and_told None P Q f h = tt
 and_told (Some s) P Q f h = f s h
 
-pub done_of : (n : List ℕ) (held : Option Snapshot) (old new : State)
+pub done_of : (site : Site) (n : List ℕ) (held : Option Snapshot) (old new : State)
     (past since : ℕ → Content → Type 0) (files : List FileRecord)
-    → IsMade [] node_name n held old new past since files → IsDone n held old new files
-done_of n held old new past since files m =
+    → IsMade site.before site.node n held (opened_at site old) new past since files
+    → IsDone site n held old new files
+done_of site n held old new past since files m =
     let copies = m.copied.copies in
     let rising : AreRising (map key_of copies) = subst AreRising (sym m.copied.keys_are)
     m.found.can.rising in
     let names : AllByRecursion IsKey (map key_of copies) = subst (AllByRecursion IsKey)
     (sym m.copied.keys_are) m.found.can.names in
-    let manifest : IsManifest [] node_name n (manifest_text (records_of [] node_name n copies))
-    (records_of [] node_name n copies) =
-    subst (λ (fs : List FileRecord). IsManifest [] node_name n (manifest_text fs) fs)
+    let manifest : IsManifest site.before site.node n (manifest_text (records_of site.before site.node n copies))
+    (records_of site.before site.node n copies) =
+    subst (λ (fs : List FileRecord). IsManifest site.before site.node n (manifest_text fs) fs)
     m.copied.files_are m.copied.manifest_is in
     let keys_are : IfSome held (λ s. map key_of copies ≡ keys s.files) = and_told held
     (λ s. m.order ≡ keys s.files) (λ s. map key_of copies ≡ keys s.files)
     (λ s e. m.copied.keys_are ∙ e) m.found.can.keys_are in
     record {
       finished = subst (λ (fs : List FileRecord). IfTold old.content new.content
-          (λ c d. IsFinished [] node_name n c d fs)) (sym m.copied.files_are)
-          (told_finished n m.schema m.copied.at m.copied.end copies old.content new.content
-          m.copied.passes.content m.found.was_free rising names manifest);
+          (λ c d. IsFinished site.before site.node n c d fs)) (sym m.copied.files_are)
+          (told_finished site.before site.node n m.schema m.copied.at m.copied.end copies old.content new.content
+          m.copied.moves.passes.content m.found.was_free rising names manifest);
       backup = subst (λ (fs : List FileRecord). IfTold old.content new.content
-          (λ c d. IfSome held (λ s. IsBackupOf [] node_name n s c d fs))) (sym m.copied.files_are)
-          (told_backup n m.schema m.copied.at m.copied.end copies held old.content new.content
-          m.copied.passes.content m.found.was_free rising names manifest m.copied.bytes_are
+          (λ c d. IfSome held (λ s. IsBackupOf site.before site.node n s c d fs))) (sym m.copied.files_are)
+          (told_backup site.before site.node n m.schema m.copied.at m.copied.end copies held old.content new.content
+          m.copied.moves.passes.content m.found.was_free rising names manifest m.copied.bytes_are
           keys_are m.found.can.schema_is);
       walked = m.found.walked;
       was_free = m.found.was_free;
+      terms = m.copied.moves.terms;
     }
 
 -- ---- what stood meanwhile
 
-pub no_moments : (words : List (List ℕ)) (snap : List ℕ → Option Snapshot) (old new : State)
-    (past since : ℕ → Content → Type 0) → Passes [] old new past since
-    → HasMoments words snap old new past since
-no_moments words snap old new past since passes = record {
-  done = [];
-  begun = inl refl;
-  passes = passes;
-}
-
-pub made_moments : (words : List (List ℕ)) (snap : List ℕ → Option Snapshot) (n : List ℕ)
-    (old new : State) (past since : ℕ → Content → Type 0) (files : List FileRecord)
-    → Asks words n → IsMade [] node_name n (snap n) old new past since files
-    → HasMoments words snap old new past since
-made_moments words snap n old new past since files asks m = record {
-  done = backup_puts [] node_name n m.schema m.copied.at m.copied.copies m.copied.end;
-  begun = inr (
-    n,
-    asks,
-    m.found.was_free,
-    record {
-      schema = m.schema;
-      at = m.copied.at;
-      copies = m.copied.copies;
-      end = m.copied.end;
-      rest = [];
-      of_snapshot = record {
-        keys_are = and_told (snap n) (λ s. m.order ≡ keys s.files)
-            (λ s. map key_of m.copied.copies ≡ keys s.files) (λ s e. m.copied.keys_are ∙ e)
-            m.found.can.keys_are;
-        bytes_are = m.copied.bytes_are;
-        schema_is = m.found.can.schema_is;
+module _ (asked : Asked) (a : Around) (past since : ℕ → Content → Type 0) (site : Site) (n : List ℕ)
+  where
+    pub made_moments : (files : List FileRecord) → Asks a.files asked site n
+        → IsMade site.before site.node n (snap_at a.snaps site n) (opened_at site a.old) a.new past
+        since files → HasMoments asked a past since
+    made_moments files asks m = inr (record {
+      site = site;
+      name = n;
+      done = backup_puts site.before site.node n m.schema m.copied.at m.copied.copies m.copied.end;
+      asks = asks;
+      begun = record {
+        schema = m.schema;
+        at = m.copied.at;
+        copies = m.copied.copies;
+        end = m.copied.end;
+        rest = [];
+        of_snapshot = record {
+          keys_are = and_told (snap_at a.snaps site n) (λ s. m.order ≡ keys s.files)
+              (λ s. map key_of m.copied.copies ≡ keys s.files) (λ s e. m.copied.keys_are ∙ e)
+              m.found.can.keys_are;
+          bytes_are = m.copied.bytes_are;
+          schema_is = m.found.can.schema_is;
+        };
+        split = sym (append-nil (backup_puts site.before site.node n m.schema m.copied.at
+            m.copied.copies m.copied.end));
       };
-      split = sym (append-nil
-          (backup_puts [] node_name n m.schema m.copied.at m.copied.copies m.copied.end));
-    },
-  );
-  passes = m.copied.passes;
-}
+      was_free = inr m.found.was_free;
+      moves = m.copied.moves;
+    })
 
-cut_moments : (words : List (List ℕ)) (snap : List ℕ → Option Snapshot) (n : List ℕ)
-    (old new : State) (past since : ℕ → Content → Type 0)
-    → Asks words n → IsCutShort [] node_name n (snap n) old new past since
-    → HasMoments words snap old new past since
-cut_moments words snap n old new past since asks cut = record {
-  done = cut.done;
-  begun = begun cut.was_free;
-  passes = cut.passes;
-}
-  where
-    begun : (cut.done ≡ []) ⊎ IsFree [] node_name n old.content
-        → (cut.done ≡ []) ⊎ ((m : List ℕ) × Asks words m × IsFree [] node_name m old.content
-        × IsBegun [] node_name m (snap m) cut.done)
-    begun (inl none) = inl none
-    begun (inr free) = inr (n, asks, free, cut.begun)
+    cut_moments : Asks a.files asked site n
+        → IsCutShort site.before site.node n (snap_at a.snaps site n) (opened_at site a.old) a.new past
+        since → HasMoments asked a past since
+    cut_moments asks cut = inr (record {
+      site = site;
+      name = n;
+      done = cut.done;
+      asks = asks;
+      begun = cut.begun;
+      was_free = cut.was_free;
+      moves = cut.moves;
+    })
 
-pub left_moments : (words : List (List ℕ)) (snap : List ℕ → Option Snapshot) (n : List ℕ)
-    (old new : State) (past since : ℕ → Content → Type 0) (r : Refusal)
-    → Asks words n → Leaves [] node_name n (snap n) old new past since r
-    → HasMoments words snap old new past since
-left_moments words snap n old new past since refusal.NoSnapshot asks passes = no_moments words snap
-    old new past since passes
-left_moments words snap n old new past since (refusal.BadFileName at) asks passes = no_moments words
-    snap old new past since passes
-left_moments words snap n old new past since (refusal.Taken path) asks passes = no_moments words
-    snap old new past since passes
-left_moments words snap n old new past since (refusal.Fault f) asks cut = cut_moments words snap n
-    old new past since asks cut
+    -- nothing was put after the bucket was opened
+    none_moments : Asks a.files asked site n → Moves [] (opened_at site a.old) a.new past since
+        → HasMoments asked a past since
+    none_moments asks moves = inr (record {
+      site = site;
+      name = n;
+      done = [];
+      asks = asks;
+      begun = any_begun site.before site.node n (snap_at a.snaps site n);
+      was_free = inl refl;
+      moves = moves;
+    })
 
--- ---- why the words or the backup were refused
+    pub left_moments : (r : Refusal) → Asks a.files asked site n
+        → LeavesAt site n (snap_at a.snaps site n) a.old a.new past since r
+        → HasMoments asked a past since
+    left_moments r asks (inl moves) = inl moves
+    left_moments refusal.NoSnapshot asks (inr moves) = none_moments asks moves
+    left_moments (refusal.BadFileName at) asks (inr moves) = none_moments asks moves
+    left_moments (refusal.Taken path) asks (inr moves) = none_moments asks moves
+    left_moments (refusal.Fault f) asks (inr cut) = cut_moments asks cut
 
--- words that are not refused ask for a backup
-pub asks_of : (words : List (List ℕ)) → is_refused (asked_name words) ≡ false → (n : List ℕ)
-    × Asks words n
-asks_of words right = go (asked_name words) refl right
-  where
-    none_of : (o : Option ℕ) → is_some o ≡ false → o ≡ None
-    none_of None e = refl
-    none_of (Some x) e = absurd (cc)
+    -- ---- why the backup was refused
 
-    go : (asked : Option (List ℕ)) → asked_name words ≡ asked → is_refused asked ≡ false
-        → (n : List ℕ) × Asks words n
-    go None is e = absurd (cc)
-    go (Some n) is e = (n, record { asked = is; fits = none_of (backup_fault n) e })
+    -- what is asked for is built
+    pub asked_is_built : Asks a.files asked site n → is_built asked.action ≡ true
+    asked_is_built asks = ap is_built asks.action
 
-pub fault_of_refusal : (call : Call) (past since : ℕ → Content → Type 0) (n : List ℕ) (r : Refusal)
-    → Asks call.words n
-    → BlamesLook [] node_name n (call.snap n) call.old.content r
-    → Leaves [] node_name n (call.snap n) call.old call.new past since r
-    → IsCausedOf call.nodes_before call.nodes_now call.old.faults call.new.faults r
-    → IsFaultOf call past since (fault_for n r)
-fault_of_refusal call past since n refusal.NoSnapshot asks blames left caused = (asks, blames, left)
-fault_of_refusal call past since n (refusal.BadFileName at) asks blames left caused =
-    (n, asks, blames, left)
-fault_of_refusal call past since n (refusal.Taken path) asks blames left caused =
-    (asks, blames.0, blames.1, left)
-fault_of_refusal call past since n (refusal.Fault fault.Snap) asks blames left caused =
-    ((n, asks), caused)
-fault_of_refusal call past since n (refusal.Fault fault.Store) asks blames left caused =
-    ((n, asks), caused)
-fault_of_refusal call past since n (refusal.Fault fault.Memory) asks blames left caused = (n, asks)
+    opened_untouched : Moves [] (opened_at site a.old) a.new past since
+        → Passes [] a.old a.new past since
+    opened_untouched moves = passes_from_terms (terms_of site.base site.bucket site.before) [] a.old
+        a.new past since moves.passes
+
+    untouched : Moves [] a.old a.new past since ⊎ Moves [] (opened_at site a.old) a.new past since
+        → Passes [] a.old a.new past since
+    untouched (inl moves) = moves.passes
+    untouched (inr moves) = opened_untouched moves
+
+    pub fault_of_refusal : (r : Refusal) → Asks a.files asked site n
+        → BlamesLook site.before site.node n (snap_at a.snaps site n) a.old.content r
+        → LeavesAt site n (snap_at a.snaps site n) a.old a.new past since r
+        → IsCausedOf a.nodes_before a.nodes_now a.old.faults a.new.faults r
+        → IsFaultOf asked a past since (fault_for n r)
+    fault_of_refusal refusal.NoSnapshot asks blames left caused =
+        (site, asks, blames, untouched left)
+    fault_of_refusal (refusal.BadFileName at) asks blames left caused =
+        (site, n, asks, blames, untouched left)
+    fault_of_refusal (refusal.Taken path) asks blames left caused =
+        (site, asks, blames.0, blames.1, untouched left)
+    fault_of_refusal (refusal.Fault fault.Snap) asks blames left caused =
+        (asked_is_built asks, inr caused)
+    fault_of_refusal (refusal.Fault fault.Store) asks blames left caused =
+        (record { site = site; name = n; asks = asks }, caused)
+    fault_of_refusal (refusal.Fault fault.Memory) asks blames left caused = asked_is_built asks
+
+    -- the backup was made, and its line wasn't printed whole
+    pub printed_end : (files : List FileRecord) (out : Stream) (f : Fault)
+        → Asks a.files asked site n → IsDone site n (snap_at a.snaps site n) a.old a.new files
+        → IsUnprinted (report_line n site.node files) out f
+        → IsEndOf asked a past since out f
+    printed_end files out (Usage usage) asks done why = absurd why
+    printed_end files out (NotBuilt word) asks done why = absurd why
+    printed_end files out (Config fault) asks done why = absurd why
+    printed_end files out (Taken name path) asks done why = absurd why
+    printed_end files out Read asks done why = absurd why
+    printed_end files out Storage asks done why = absurd why
+    printed_end files out Write asks done why = (
+      record {
+        site = site;
+        name = n;
+        files = files;
+        asks = asks;
+        done = done;
+        line = why.0;
+      },
+      why.1,
+    )
+    printed_end files out (NoSnapshot name) asks done why = absurd why
+    printed_end files out (BadFileName at) asks done why = absurd why
+    printed_end files out Memory asks done why = (asked_is_built asks, why)
 
 -- ---- the end of the command
 
 -- nothing was printed
-pub unprinted_end : (call : Call) (past since : ℕ → Content → Type 0) (told : Option (List ℕ))
-    (before now : ℕ) (f : Fault)
-    → IsFaultOf call past since f → IsEndOf call past since told told before now f
-unprinted_end call past since told before now Line why = (why, refl)
-unprinted_end call past since told before now BadName why = (why, refl)
-unprinted_end call past since told before now (Taken name path) why = (why, refl)
-unprinted_end call past since told before now Read why = (why, refl)
-unprinted_end call past since told before now Storage why = (why, refl)
-unprinted_end call past since told before now Write why = absurd why
-unprinted_end call past since told before now (NoSnapshot name) why = (why, refl)
-unprinted_end call past since told before now (BadFileName at) why = (why, refl)
-unprinted_end call past since told before now Memory why = (why, refl)
-
--- the backup was made, and its line wasn't printed whole
-pub printed_end : (call : Call) (past since : ℕ → Content → Type 0) (n : List ℕ)
-    (files : List FileRecord) (old new : Option (List ℕ)) (before now : ℕ) (f : Fault)
-    → Asks call.words n → IsDone n (call.snap n) call.old call.new files
-    → IsUnprinted (report_line n node_name files) old new before now f
-    → IsEndOf call past since old new before now f
-printed_end call past since n files old new before now Line asks done why = absurd why
-printed_end call past since n files old new before now BadName asks done why = absurd why
-printed_end call past since n files old new before now (Taken name path) asks done why = absurd why
-printed_end call past since n files old new before now Read asks done why = absurd why
-printed_end call past since n files old new before now Storage asks done why = absurd why
-printed_end call past since n files old new before now Write asks done why =
-    (record { name = n; files = files; asks = asks; done = done; line = why.0 }, why.1)
-printed_end call past since n files old new before now (NoSnapshot name) asks done why = absurd why
-printed_end call past since n files old new before now (BadFileName at) asks done why = absurd why
-printed_end call past since n files old new before now Memory asks done why = ((n, asks), why)
+pub unprinted_end : (asked : Asked) (a : Around) (past since : ℕ → Content → Type 0) (out : Stream)
+    (f : Fault) → out.new ≡ out.old
+    → IsFaultOf asked a past since f → IsEndOf asked a past since out f
+unprinted_end asked a past since out (Usage usage) same why = absurd why
+unprinted_end asked a past since out (NotBuilt word) same why = (why, same)
+unprinted_end asked a past since out (Config fault) same why = (why, same)
+unprinted_end asked a past since out (Taken name path) same why = (why, same)
+unprinted_end asked a past since out Read same why = (why, same)
+unprinted_end asked a past since out Storage same why = (why, same)
+unprinted_end asked a past since out Write same why = absurd why
+unprinted_end asked a past since out (NoSnapshot name) same why = (why, same)
+unprinted_end asked a past since out (BadFileName at) same why = (why, same)
+unprinted_end asked a past since out Memory same why = (why, same)

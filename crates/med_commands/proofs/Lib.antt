@@ -3,7 +3,6 @@ pub mod Composed
 pub mod Copied
 pub mod Ended
 pub mod Finished
-pub mod FiveWords
 pub mod KeyLists
 pub mod Lists
 pub mod Placed

@@ -88,3 +88,10 @@ pub taken_said : (name path : List ℕ)
     (taken_text name path)
 taken_said name path = ap (λ t. codes "medusa: name " ++ t)
     (sym (append_assoc name (codes " is taken by " ++ path) (codes "\n")))
+
+-- the pieces that tell of a line of the config file are its text
+pub line_said : (number kind : List ℕ)
+    → codes "medusa: config: line " ++ (number ++ (codes ": " ++ (kind ++ codes "\n")))
+    ≡ complaint (codes "config: line " ++ (number ++ (codes ": " ++ kind)))
+line_said number kind = ap (λ t. codes "medusa: config: line " ++ t)
+    (sym (append_assoc number (codes ": " ++ kind) (codes "\n")))

@@ -12,7 +12,7 @@ use Rattle.med_manifest.specs.Written.{manifest_text}
 use Rattle.med_outside.specs.Causes.{Rose}
 use Rattle.med_outside.specs.Effects.{Effect}
 use Rattle.med_outside.specs.Snapshot.{Snapshot}
-use Rattle.med_outside.specs.State.{State, Passes}
+use Rattle.med_outside.specs.State.{State, Moves}
 use Rattle.med_commands.specs.Copies.{Copy, key_of, records_of, backup_puts, AreOf, IsBegun}
 use Rattle.med_commands.specs.Taken.{IsFree, IsFirstUnder}
 use Rattle.med_commands.specs.Walked.{CanBeWalked, IsFirstBad}
@@ -68,7 +68,7 @@ pub record IsCopied (before f n : List ℕ) (held : Option Snapshot) (order : Li
   pub bytes_are : AreOf held copies
   pub files_are : files ≡ records_of before f n copies
   pub manifest_is : IsManifest before f n (manifest_text files) files
-  pub passes : Passes (backup_puts before f n schema at copies end) old new past since
+  pub moves : Moves (backup_puts before f n schema at copies end) old new past since
 
 -- the backup was made of all that was found
 pub record IsMade (before f n : List ℕ) (held : Option Snapshot) (old new : State)
@@ -85,11 +85,11 @@ pub record IsCutShort (before f n : List ℕ) (held : Option Snapshot) (old new 
   pub done : List Effect
   pub begun : IsBegun before f n held done
   pub was_free : (done ≡ []) ⊎ IsFree before f n old.content
-  pub passes : Passes done old new past since
+  pub moves : Moves done old new past since
 
 -- what stands after a refusal: all as before, or after a fault the first puts of a backup
 abbrev pub Leaves : (before f n : List ℕ) → Option Snapshot → (old new : State)
     → (past since : ℕ → Content → Type 0) → Refusal → Type 0
 Leaves before f n held old new past since (Fault fault) = IsCutShort before f n held old new past
     since
-Leaves before f n held old new past since _ = Passes [] old new past since
+Leaves before f n held old new past since _ = Moves [] old new past since

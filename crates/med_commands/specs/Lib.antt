@@ -1,14 +1,15 @@
 pub mod Answers
 pub mod Backup
-pub mod Calls
 pub mod Copies
+pub mod Ends
 pub mod Fault
 pub mod Headline
+pub mod Loaded
 pub mod Placing
 pub mod Printed
 pub mod Report
+pub mod Site
 pub mod Status
 pub mod Taken
 pub mod Texts
 pub mod Walked
-pub mod Words

@@ -1,5 +1,40 @@
 -- The texts of faults that name something, and the tag of a backup's snapshot.
 use Rattle.std.specs.Prelude.{ℕ, List, ◌++◌, codes, decimal}
+use Rattle.med_ini.specs.declared.errors.IniKind.{IniKind}
+use Rattle.med_ini.specs.declared.errors.IniKind.TheVariants.{NotUtf8, NoSection, NoDelimiter, DuplicateSection, DuplicateOption, EmptyKey}
+
+abbrev pub bad_value_text : List ℕ → List ℕ
+bad_value_text option = codes "bad value for " ++ option
+
+abbrev pub not_built_text : List ℕ → List ℕ
+not_built_text word = codes "not built " ++ word
+
+abbrev pub no_file_text : List ℕ → List ℕ
+no_file_text name = codes "config: no file " ++ name
+
+-- what is wrong in a line of the config file
+abbrev pub kind_text : IniKind → List ℕ
+kind_text NotUtf8 = codes "not utf-8"
+kind_text NoSection = codes "no section"
+kind_text NoDelimiter = codes "no delimiter"
+kind_text DuplicateSection = codes "duplicate section"
+kind_text DuplicateOption = codes "duplicate option"
+kind_text EmptyKey = codes "empty key"
+
+abbrev pub line_text : ℕ → IniKind → List ℕ
+line_text line kind = codes "config: line " ++ (decimal line ++ (codes ": " ++ kind_text kind))
+
+abbrev pub missing_text : List ℕ → List ℕ
+missing_text option = codes "config: missing option " ++ option
+
+abbrev pub bad_number_text : List ℕ → List ℕ
+bad_number_text option = codes "config: bad number " ++ option
+
+abbrev pub bad_name_text : List ℕ → List ℕ
+bad_name_text option = codes "config: bad name " ++ option
+
+abbrev pub provider_text : List ℕ → List ℕ
+provider_text name = codes "config: unsupported provider " ++ name
 
 abbrev pub taken_text : List ℕ → List ℕ → List ℕ
 taken_text name path = codes "name " ++ (name ++ (codes " is taken by " ++ path))

@@ -1,8 +1,8 @@
 // Printing to a sink, piece by piece, without taking memory.
-ghost use Rattle.std.specs.Prelude.{◌≡◌, ◌≤◌, OnErr, map};
+ghost use Rattle.std.specs.Prelude.{◌≡◌, ◌≤◌, ◌++◌, OnErr, map};
 ghost use Rattle.std.specs.List.{concat};
 ghost use Rattle.med_outside.specs.Causes.{Rose};
-ghost use Rattle.med_commands.specs.Printed.{Prints};
+ghost use Rattle.med_commands.specs.Printed.{Prints, complaint};
 
 use med_outside::{Sink, SinkFailed};
 
@@ -37,4 +37,23 @@ pub(crate) fn write_pieces<O: Sink>(out: &mut O, pieces: &[&[u8]]) -> Result<(),
         }
     }
     Ok(())
+}
+
+/// `medusa: `, the text and a line feed.
+pub(crate) fn say<E: Sink>(err: &mut E, text: &[u8]) -> Result<(), SinkFailed>
+    ensures text { Prints (complaint text.now) (E.taken err.old) (E.taken err.new) result }
+    ensures later { E.faults err.old ≤ E.faults err.new }
+    ensures failed { OnErr result (Rose (E.faults err.old) (E.faults err.new)) }
+{
+    write_pieces(err, &[b"medusa: ".as_slice(), text, b"\n".as_slice()])
+}
+
+/// The same of a text in two parts.
+pub(crate) fn say_named<E: Sink>(err: &mut E, text: &[u8], name: &[u8]) -> Result<(), SinkFailed>
+    ensures text { Prints (complaint (text.now ++ name.now)) (E.taken err.old) (E.taken err.new)
+        result }
+    ensures later { E.faults err.old ≤ E.faults err.new }
+    ensures failed { OnErr result (Rose (E.faults err.old) (E.faults err.new)) }
+{
+    write_pieces(err, &[b"medusa: ".as_slice(), text, name, b"\n".as_slice()])
 }

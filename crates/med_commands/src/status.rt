@@ -7,11 +7,13 @@ ghost use Rattle.med_commands.specs.Status.{code};
 pub enum Status {
     /// 0: the work is done, and its text was written whole.
     Done,
-    /// 2: the words spell no request.
+    /// 2: the words spell no request, or one whose command isn't built.
     Usage,
+    /// 3: there is no config file, or it gives no configuration.
+    Config,
     /// 5: an object lies under the folder of the backup's name.
     Taken,
-    /// 7: the count of faults of the nodes or a snapshot rose.
+    /// 7: the count of faults of the files, the nodes or a snapshot rose.
     ReadFault,
     /// 8: the storage's count of faults rose.
     StorageFault,
@@ -31,6 +33,7 @@ impl Status {
         match self {
             Status::Done => 0,
             Status::Usage => 2,
+            Status::Config => 3,
             Status::Taken => 5,
             Status::ReadFault => 7,
             Status::StorageFault => 8,

@@ -1,19 +1,13 @@
-//! The program `medusa`: the top call over real folders and streams.
-//!
-//! Until a config file names them, the bucket `/b/k` and the folder of nodes
-//! `/var/lib/medusa/nodes` lie under the folder that the program is started in.
+//! The program `medusa`: the top call over real files, folders and streams.
 #![tactic(auto)]
 
 use med_commands::{medusa_main, tell_no_memory};
-use med_folder::{FolderNodes, FolderStore, RealSink};
+use med_folder::{FolderNodes, FolderStore, RealFiles, RealSink};
 use std::alloc::AllocError;
 use std::env;
 use std::env::Env;
 use std::io::ErrorKind;
 use std::process::ExitCode;
-
-// What stands before each absolute path: the folder that the program is started in.
-const ROOT: &str = ".";
 
 // The words after the program's name. Where one is no UTF-8 there are none, which is refused as a
 // faulty command line.
@@ -38,11 +32,13 @@ fn main(rt: HostRuntime) -> ExitCode {
     let Ok(words) = read_words(&rt) else {
         return ExitCode::from(tell_no_memory(&mut err));
     };
-    let mut store = FolderStore::new(alloc, rt, ROOT);
-    let mut nodes = FolderNodes::new(rt, ROOT);
+    let mut files = RealFiles::new(rt);
+    let mut store = FolderStore::new(alloc, rt);
+    let mut nodes = FolderNodes::new(rt);
     let status = medusa_main(
         alloc,
         words.as_slice(),
+        &mut files,
         &mut store,
         &mut nodes,
         &mut out,

@@ -1,12 +1,12 @@
 use Rattle.med_commands.proofs.Composed.{same_content, copied_after, nothing_left, cut_after}
-use Rattle.med_commands.proofs.backup.backup_snapshot.Goals as goal
+use Rattle.med_commands.proofs.node.backup_snapshot.Goals as goal
 
 pub returns-in-Err-clause-leaves : goal.returns-in-Err-clause-leaves
 returns-in-Err-clause-leaves g c =
     nothing_left c.args.layout.now c.args.node.now c.args.name.now (g.P.Snap.held c.args.snap.now)
     (g.S.Storage.state c.args.store.now) (g.S.Storage.state c.look.new.store)
     (g.S.Storage.stood_since c.args.store.now) (g.S.Storage.stood_since c.look.new.store)
-    c.look.ensures.looks.moves.passes c.in-Err.refusal
+    c.look.ensures.looks.moves c.in-Err.refusal
 
 pub copy_found-requires : goal.copy_found-requires
 copy_found-requires g c =
@@ -27,7 +27,7 @@ returns-in-Ok-copy_found-clause-ok g c = record {
       (g.S.Storage.state c.copy_found.new.store)
       (g.S.Storage.stood_since c.args.store.now) (g.S.Storage.stood_since c.look.new.store)
       (g.S.Storage.stood_since c.copy_found.new.store)
-      c.in-Ok-copy_found.files.items c.look.ensures.looks.moves.passes
+      c.in-Ok-copy_found.files.items c.look.ensures.looks.moves
       (rw c.look.ensures.same at c.in-Ok-copy_found.ensures.ok);
 }
 
@@ -38,4 +38,4 @@ returns-clause-leaves g c =
     (g.S.Storage.state c.copy_found.new.store)
     (g.S.Storage.stood_since c.args.store.now) (g.S.Storage.stood_since c.look.new.store)
     (g.S.Storage.stood_since c.copy_found.new.store)
-    c.look.ensures.looks.moves.passes (rw c.look.ensures.same at c.in-Err-copy_found.ensures.err)
+    c.look.ensures.looks.moves (rw c.look.ensures.same at c.in-Err-copy_found.ensures.err)

@@ -1,0 +1,15 @@
+use Rattle.med_outside.proofs.Passing.{moves_at_rest}
+use Rattle.med_commands.proofs.Composed.{nothing_cut}
+use Rattle.med_commands.proofs.node.backup_opened.Goals as goal
+
+pub returns-in-Err-clause-leaves : goal.returns-in-Err-clause-leaves
+returns-in-Err-clause-leaves g c = nothing_cut _ _ _ _ _ _ _ _
+    (moves_at_rest (g.S.Storage.state c.args.store.now) (g.S.Storage.stood_since c.args.store.now))
+
+pub returns-in-Err-Failed-clause-leaves : goal.returns-in-Err-Failed-clause-leaves
+returns-in-Err-Failed-clause-leaves g c = nothing_cut _ _ _ _ _ _ _ _
+    (moves_at_rest (g.S.Storage.state c.args.store.now) (g.S.Storage.stood_since c.args.store.now))
+
+pub returns-in-Err-Memory-clause-leaves : goal.returns-in-Err-Memory-clause-leaves
+returns-in-Err-Memory-clause-leaves g c = nothing_cut _ _ _ _ _ _ _ _
+    (moves_at_rest (g.S.Storage.state c.args.store.now) (g.S.Storage.stood_since c.args.store.now))

@@ -1,0 +1,68 @@
+// The texts of a config file that gives no configuration.
+ghost use Rattle.std.specs.Prelude.{◌≡◌, ◌≤◌, OnErr};
+ghost use Rattle.med_outside.specs.Causes.{Rose};
+ghost use Rattle.med_commands.specs.Loaded.{config_text};
+ghost use Rattle.med_commands.specs.Texts.{kind_text, line_text};
+ghost use Rattle.med_commands.specs.Printed.{Prints, complaint};
+
+use crate::load::ConfigFault;
+use crate::print::{say_named, write_pieces};
+use itoa::Buffer;
+use med_ini::IniKind;
+use med_outside::{Sink, SinkFailed};
+
+fn text_of_kind(kind: IniKind) -> &'static [u8]
+    ensures { result.now ≡ kind_text kind }
+{
+    match kind {
+        IniKind::NotUtf8 => b"not utf-8",
+        IniKind::NoSection => b"no section",
+        IniKind::NoDelimiter => b"no delimiter",
+        IniKind::DuplicateSection => b"duplicate section",
+        IniKind::DuplicateOption => b"duplicate option",
+        IniKind::EmptyKey => b"empty key",
+    }
+}
+
+fn say_line<E: Sink>(err: &mut E, line: u64, kind: IniKind) -> Result<(), SinkFailed>
+    ensures text { Prints (complaint (line_text line kind)) (E.taken err.old) (E.taken err.new)
+        result }
+    ensures later { E.faults err.old ≤ E.faults err.new }
+    ensures failed { OnErr result (Rose (E.faults err.old) (E.faults err.new)) }
+{
+    let mut buffer = Buffer::new();
+    let number = buffer.format(line);
+    write_pieces(
+        err,
+        &[
+            b"medusa: config: line ".as_slice(),
+            number.as_bytes(),
+            b": ".as_slice(),
+            text_of_kind(kind),
+            b"\n".as_slice(),
+        ],
+    )
+}
+
+/// Tells why a config file gives no configuration, in one line.
+pub(crate) fn say_config<E: Sink>(err: &mut E, fault: &ConfigFault) -> Result<(), SinkFailed>
+    ensures text { Prints (complaint (config_text fault.now)) (E.taken err.old) (E.taken err.new)
+        result }
+    ensures later { E.faults err.old ≤ E.faults err.new }
+    ensures failed { OnErr result (Rose (E.faults err.old) (E.faults err.new)) }
+{
+    match fault {
+        ConfigFault::NoFile { name } => say_named(err, b"config: no file ", name.as_bytes()),
+        ConfigFault::Line { line, kind } => say_line(err, *line, *kind),
+        ConfigFault::Missing { option } => {
+            say_named(err, b"config: missing option ", option.as_bytes())
+        }
+        ConfigFault::BadNumber { option } => {
+            say_named(err, b"config: bad number ", option.as_bytes())
+        }
+        ConfigFault::BadName { option } => say_named(err, b"config: bad name ", option.as_bytes()),
+        ConfigFault::Provider { name } => {
+            say_named(err, b"config: unsupported provider ", name.as_bytes())
+        }
+    }
+}
