@@ -298,7 +298,8 @@ module _ (before f n : List ℕ) (held : Option Snapshot) where
         manifest_is = subst (λ (t : List ℕ). IsManifest before f n t files) text_is manifest;
         moves = all_passed schema at all.places.copies end s0 s1 s2 s3 p0 p1 p2 p3 first
             all.places.moves
-            (subst (λ (t : List ℕ). Moves (Stores (meta_path before f n Manifest) t end ∷ []) s2 s3 p2
+            (subst (λ (t : List ℕ). Moves (Stores (meta_path before f n Manifest) t end ∷ []) s2 s3
+            p2
             p3) (text_is ∙ ap manifest_text all.files_are) moves);
       }
 

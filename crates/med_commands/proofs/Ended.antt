@@ -32,7 +32,8 @@ use Rattle.med_commands.proofs.Finished.{finished, backup_of}
 
 -- ---- a backup that was made is done
 
-told_finished : (before f n schema : List ℕ) (at end : ℕ) (copies : List Copy) (told after : Option Content)
+told_finished : (before f n schema : List ℕ) (at end : ℕ) (copies : List Copy)
+    (told after : Option Content)
     → after ≡ after_all (backup_puts before f n schema at copies end) told
     → IfSome told (λ c. objects_under (backup_folder before f n) c ≡ [])
     → AreRising (map key_of copies) → AllByRecursion IsKey (map key_of copies)
@@ -45,7 +46,8 @@ told_finished before f n schema at end copies (Some c) after is free rising name
     (λ c d. IsFinished before f n c d (records_of before f n copies))) (sym is)
     (finished before f n schema at end c free copies rising names manifest)
 
-told_backup : (before f n schema : List ℕ) (at end : ℕ) (copies : List Copy) (held : Option Snapshot)
+told_backup : (before f n schema : List ℕ) (at end : ℕ) (copies : List Copy)
+    (held : Option Snapshot)
     (told after : Option Content)
     → after ≡ after_all (backup_puts before f n schema at copies end) told
     → IfSome told (λ c. objects_under (backup_folder before f n) c ≡ [])
@@ -56,14 +58,17 @@ told_backup : (before f n schema : List ℕ) (at end : ℕ) (copies : List Copy)
     → IfSome held (λ s. schema ≡ s.schema)
     → IfTold told after (λ c d. IfSome held
     (λ s. IsBackupOf before f n s c d (records_of before f n copies)))
-told_backup before f n schema at end copies held None after is free rising names manifest of keys_are
+told_backup before f n schema at end copies held None after is free rising names manifest of
+    keys_are
     schema_is = tt
-told_backup before f n schema at end copies None (Some c) after is free rising names manifest of keys_are
+told_backup before f n schema at end copies None (Some c) after is free rising names manifest of
+    keys_are
     schema_is =
     subst (λ (t : Option Content). IfTold (Some c) t
     (λ c d. IfSome None (λ s. IsBackupOf before f n s c d
     (records_of before f n copies)))) (sym is) tt
-told_backup before f n schema at end copies (Some s) (Some c) after is free rising names manifest of keys_are
+told_backup before f n schema at end copies (Some s) (Some c) after is free rising names manifest
+    of keys_are
     schema_is =
     subst (λ (t : Option Content). IfTold (Some c) t
     (λ c d. IfSome (Some s)
@@ -86,7 +91,8 @@ done_of site n held old new past since files m =
     m.found.can.rising in
     let names : AllByRecursion IsKey (map key_of copies) = subst (AllByRecursion IsKey)
     (sym m.copied.keys_are) m.found.can.names in
-    let manifest : IsManifest site.before site.node n (manifest_text (records_of site.before site.node n copies))
+    let manifest : IsManifest site.before site.node n
+    (manifest_text (records_of site.before site.node n copies))
     (records_of site.before site.node n copies) =
     subst (λ (fs : List FileRecord). IsManifest site.before site.node n (manifest_text fs) fs)
     m.copied.files_are m.copied.manifest_is in
@@ -96,11 +102,14 @@ done_of site n held old new past since files m =
     record {
       finished = subst (λ (fs : List FileRecord). IfTold old.content new.content
           (λ c d. IsFinished site.before site.node n c d fs)) (sym m.copied.files_are)
-          (told_finished site.before site.node n m.schema m.copied.at m.copied.end copies old.content new.content
+          (told_finished site.before site.node n m.schema m.copied.at m.copied.end copies
+          old.content new.content
           m.copied.moves.passes.content m.found.was_free rising names manifest);
       backup = subst (λ (fs : List FileRecord). IfTold old.content new.content
-          (λ c d. IfSome held (λ s. IsBackupOf site.before site.node n s c d fs))) (sym m.copied.files_are)
-          (told_backup site.before site.node n m.schema m.copied.at m.copied.end copies held old.content new.content
+          (λ c d. IfSome held (λ s. IsBackupOf site.before site.node n s c d fs)))
+          (sym m.copied.files_are)
+          (told_backup site.before site.node n m.schema m.copied.at m.copied.end copies held
+          old.content new.content
           m.copied.moves.passes.content m.found.was_free rising names manifest m.copied.bytes_are
           keys_are m.found.can.schema_is);
       walked = m.found.walked;
@@ -141,7 +150,8 @@ module _ (asked : Asked) (a : Around) (past since : ℕ → Content → Type 0) 
     })
 
     cut_moments : Asks a.files asked site n
-        → IsCutShort site.before site.node n (snap_at a.snaps site n) (opened_at site a.old) a.new past
+        → IsCutShort site.before site.node n (snap_at a.snaps site n) (opened_at site a.old) a.new
+        past
         since → HasMoments asked a past since
     cut_moments asks cut = inr (record {
       site = site;

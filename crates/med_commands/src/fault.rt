@@ -121,7 +121,8 @@ fn say_no_snapshot<E: Sink>(err: &mut E, name: &str) -> Result<(), SinkFailed>
 }
 
 fn say_bad_file<E: Sink>(err: &mut E, at: usize) -> Result<(), SinkFailed>
-    ensures text { Prints (complaint (bad_file_text at)) (E.taken err.old) (E.taken err.new) result }
+    ensures text { Prints (complaint (bad_file_text at)) (E.taken err.old) (E.taken err.new)
+        result }
     ensures later { E.faults err.old ≤ E.faults err.new }
     ensures failed { OnErr result (Rose (E.faults err.old) (E.faults err.new)) }
 {

@@ -45,8 +45,7 @@ fn backup_snapshot<S: Storage, P: Snap>(
     }
 }
 
-// Opens the node's snapshot for the backup, backs it up, and closes the snapshot whatever the answer
-// is.
+// Opens the node's snapshot for the backup, backs it up, and closes it whatever the answer is.
 fn backup_opened<S: Storage, N: Nodes>(
     alloc: Global,
     store: &mut S,

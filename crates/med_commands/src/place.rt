@@ -67,7 +67,8 @@ fn place<S: Storage, P: Snap>(
         (S.state store.new) (S.stood_since store.old) (S.stood_since store.new)) }
     ensures err { OnErr result
         (PlacesSome layout.now node.now name.now (P.held snap.old) (key.now ∷ [])
-        (S.state store.old) (S.state store.new) (S.stood_since store.old) (S.stood_since store.new)) }
+        (S.state store.old) (S.state store.new) (S.stood_since store.old)
+        (S.stood_since store.new)) }
     ensures same { P.held snap.new ≡ P.held snap.old }
     ensures snap_later { P.faults snap.old ≤ P.faults snap.new }
     ensures store_later { (S.state store.old).faults ≤ (S.state store.new).faults }

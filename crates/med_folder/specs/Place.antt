@@ -12,7 +12,8 @@ is_separator b = (b == 47) || (b == 0)
 -- a name in a folder: it isn't empty, has no slash and no NUL, and is neither `.` nor `..`
 abbrev pub is_name : List ℕ → Bool
 is_name text =
-    not (bytes_eq text [] || bytes_eq text (codes ".") || bytes_eq text (codes "..")) && is_none (position is_separator text)
+    not (bytes_eq text [] || bytes_eq text (codes ".") || bytes_eq text (codes ".."))
+    && is_none (position is_separator text)
 
 -- the folder of unfinished files, or a path below it
 abbrev pub is_unfinished : List ℕ → Bool

@@ -149,9 +149,12 @@ impl<R: Files + Clock + AllocGlobal + Clone + Drop> Storage for FolderStore<R> {
 
     /// As the trait says. A path that isn't an object's is a fault.
     fn put(&mut self, alloc: Global, path: &ObjPath, bytes: &[u8]) -> Result<u64, Denied>
-        ensures ok { IfOk result (Put path.now bytes.now (untold self.old) (untold self.new) never never) }
-        ensures failed { IsErrOf result Denied.Failed → MayPut path.now bytes.now (untold self.old) (untold self.new) never never }
-        ensures memory { IsErrOf result Denied.Memory → Looks (untold self.old) (untold self.new) never never }
+        ensures ok { IfOk result
+            (Put path.now bytes.now (untold self.old) (untold self.new) never never) }
+        ensures failed { IsErrOf result Denied.Failed
+            → MayPut path.now bytes.now (untold self.old) (untold self.new) never never }
+        ensures memory { IsErrOf result Denied.Memory
+            → Looks (untold self.old) (untold self.new) never never }
         ensures cause { HasCause self.old.faults self.new.faults result }
         ensures place { OnOk result (is_object_path path.now ≡ true) }
     {
@@ -164,7 +167,9 @@ impl<R: Files + Clock + AllocGlobal + Clone + Drop> Storage for FolderStore<R> {
 
     /// As the trait says. Only plain files are listed, and no link is followed.
     fn list(&mut self, alloc: Global, under: &str) -> Result<Vec<Entry>, Denied>
-        ensures entries { IfOk result (λ entries. IfSome (untold self.old).content (λ c. entries.items ≡ listing under.now c)) }
+        ensures entries { IfOk result
+            (λ entries. IfSome (untold self.old).content
+            (λ c. entries.items ≡ listing under.now c)) }
         ensures looks { Looks (untold self.old) (untold self.new) never never }
         ensures cause { HasCause self.old.faults self.new.faults result }
         ensures shown { IfOk result (λ entries. AreShown under.now entries.items) }

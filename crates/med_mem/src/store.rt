@@ -43,9 +43,9 @@ impl Model for MemStore {
 }
 
 impl MemStore {
-    /// A store without objects and faults that isn't open yet, under the layout of the empty prefix. `now` begins at
-    /// the clock, in seconds, and each put that takes effect adds a tick to it afterwards, up to
-    /// the last value. It takes no memory.
+    /// A store without objects and faults that isn't open yet, under the layout of the empty prefix.
+    /// `now` begins at the clock, in seconds, and each put that takes effect adds a tick to it
+    /// afterwards, up to the last value. It takes no memory.
     pub fn new(alloc: Global, clock: u64, tick: u64) -> MemStore
         ensures { result ≡ new_at clock tick }
     {

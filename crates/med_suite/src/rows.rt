@@ -18,7 +18,8 @@ const BACKUP: [&str; 7] = [
     "full",
 ];
 
-const INI: &str = "[storage]\nstorage_provider = local\nbase_path = /b\nbucket_name = k\nfqdn = n1\n";
+const INI: &str = "[storage]\nstorage_provider = local\nbase_path = /b\nbucket_name = k\n\
+    fqdn = n1\n";
 
 const LINE: &str = "backup b1 of n1: 1 files, 3 bytes, 0 reused, 1 stored, 0 aside\n";
 
@@ -201,7 +202,12 @@ fn long_names(alloc: Global) -> Result<[bool; 2], NoMemory> {
     let short = long_name(alloc, 200)?;
     let long = long_name(alloc, 201)?;
     Ok([
-        refused(alloc, &["verify", short.as_str()], 2, "medusa: not built verify\n")?,
+        refused(
+            alloc,
+            &["verify", short.as_str()],
+            2,
+            "medusa: not built verify\n",
+        )?,
         refused(alloc, &["verify", long.as_str()], 2, BAD_NAME)?,
     ])
 }

@@ -101,7 +101,8 @@ returns-in-Ok-backup_node-clause-err g c =
       nodes_now = g.N.Nodes.faults c.backup_node.new.nodes;
     })
     (g.S.Storage.stood_since c.args.store.now)
-    (g.S.Storage.stood_since c.backup_node.new.store) site c.args.name.now c.in-Ok-backup_node.records.items
+    (g.S.Storage.stood_since c.backup_node.new.store) site c.args.name.now
+    c.in-Ok-backup_node.records.items
     (record {
       old = g.O.Sink.taken c.args.out.now;
       new = g.O.Sink.taken c.print_line.new.out;
@@ -131,7 +132,8 @@ returns-in-Ok-backup_node-clause-moments g c =
       nodes_now = g.N.Nodes.faults c.backup_node.new.nodes;
     })
     (g.S.Storage.stood_since c.args.store.now)
-    (g.S.Storage.stood_since c.backup_node.new.store) site c.args.name.now c.in-Ok-backup_node.records.items asks
+    (g.S.Storage.stood_since c.backup_node.new.store) site c.args.name.now
+    c.in-Ok-backup_node.records.items asks
     c.in-Ok-backup_node.ensures.ok
 
 pub returns-in-Err-backup_node-clause-err : goal.returns-in-Err-backup_node-clause-err
@@ -155,7 +157,8 @@ returns-in-Err-backup_node-clause-err g c =
       nodes_now = g.N.Nodes.faults c.backup_node.new.nodes;
     })
     (g.S.Storage.stood_since c.args.store.now)
-    (g.S.Storage.stood_since c.backup_node.new.store) site c.args.name.now c.in-Err-backup_node.refusal asks
+    (g.S.Storage.stood_since c.backup_node.new.store) site c.args.name.now
+    c.in-Err-backup_node.refusal asks
     c.in-Err-backup_node.ensures.err c.in-Err-backup_node.ensures.leaves
     c.in-Err-backup_node.ensures.cause in
     rw (c.fault_of.ensures, c.in-Ok.ensures) (unprinted_end (asked_of c.args.request.now) (record {
@@ -198,5 +201,6 @@ returns-in-Err-backup_node-clause-moments g c =
       nodes_now = g.N.Nodes.faults c.backup_node.new.nodes;
     })
     (g.S.Storage.stood_since c.args.store.now)
-    (g.S.Storage.stood_since c.backup_node.new.store) site c.args.name.now c.in-Err-backup_node.refusal asks
+    (g.S.Storage.stood_since c.backup_node.new.store) site c.args.name.now
+    c.in-Err-backup_node.refusal asks
     c.in-Err-backup_node.ensures.leaves

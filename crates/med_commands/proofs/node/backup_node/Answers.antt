@@ -8,7 +8,8 @@ use Rattle.med_commands.proofs.node.backup_node.Goals as goal
 
 pub returns-in-Ok-clause-ok : goal.returns-in-Ok-clause-ok
 returns-in-Ok-clause-ok g c =
-    let first : Moves [] (opened_at (site_of c.args.config.now) (g.S.Storage.state c.args.store.now))
+    let first : Moves [] (opened_at (site_of c.args.config.now)
+    (g.S.Storage.state c.args.store.now))
     (g.S.Storage.state c.open.new.self) (g.S.Storage.stood_since c.args.store.now)
     (g.S.Storage.stood_since c.open.new.self) =
     rw (c.as_str-base.ensures.value, c.as_str-bucket.ensures.value) at c.in-Ok.ensures.ok in
@@ -33,7 +34,8 @@ returns-in-Ok-clause-ok g c =
 
 pub returns-in-Ok-clause-leaves : goal.returns-in-Ok-clause-leaves
 returns-in-Ok-clause-leaves g c =
-    let first : Moves [] (opened_at (site_of c.args.config.now) (g.S.Storage.state c.args.store.now))
+    let first : Moves [] (opened_at (site_of c.args.config.now)
+    (g.S.Storage.state c.args.store.now))
     (g.S.Storage.state c.open.new.self) (g.S.Storage.stood_since c.args.store.now)
     (g.S.Storage.stood_since c.open.new.self) =
     rw (c.as_str-base.ensures.value, c.as_str-bucket.ensures.value) at c.in-Ok.ensures.ok in
