@@ -1,4 +1,11 @@
+pub mod Digests
 pub mod Names
 pub mod Nesting
+pub mod Once
+pub mod PlaceLemmas
+pub mod RecordLemmas
+pub mod Refused
 pub mod Tables
+pub mod TreeLemmas
 pub mod WholeLemmas
+pub mod Zips

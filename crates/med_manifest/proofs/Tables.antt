@@ -1,14 +1,15 @@
 -- The tables of files that stand in order are cut off one after another.
-use Rattle.std.proofs.Common.{◌≡◌, ℕ, ◌-◌, ◌&&◌, ◌≤◌, Bool, true, false, List, [], ◌∷◌, ◌++◌, map, take, drop, length, get_or, append_assoc, subst, refl, ap, sym, ◌∙◌, arith}
+use Rattle.std.proofs.Common.{◌≡◌, ◌<◌, ◌+◌, zero, suc, ℕ, ◌-◌, ◌&&◌, ◌≤◌, Bool, true, false, List, [], ◌∷◌, ◌++◌, map, take, drop, length, get_or, append_assoc, subst, refl, ap, sym, ◌∙◌, arith}
 use Rattle.std.proofs.Math.Numerals.{one-add, sub-one}
 use Rattle.std.proofs.Math.Seq.{take-length}
-use Rattle.std.specs.List.{prefix_len}
+use Rattle.std.specs.List.{prefix_len, AllByRecursion}
+use Rattle.std.proofs.lemmas.List.{take_more}
 use Rattle.std.specs.Str.{bytes_eq}
 use Rattle.std.proofs.lemmas.Slice.Eq.{slice_eq-Decides}
 use Rattle.std.proofs.lemmas.Bool.Decides.{Decides-eqb}
 use Rattle.serde_json.specs.Data.{Data}
 use Rattle.med_manifest.specs.declared.manifest.FileRecord.{FileRecord}
-use Rattle.med_manifest.specs.Written.{Table, tables, with_file, is_same_table, table_data}
+use Rattle.med_manifest.specs.Written.{IsDigest, HaveDigests, Table, tables, with_file, is_same_table, table_data}
 
 both : (a b : Bool) → (a && b) ≡ true → (a ≡ true) × (b ≡ true)
 both true b e = (refl, e)
@@ -74,3 +75,36 @@ pub next_table : (told next : List Data) (d : Data) (xs after others left : List
 next_table told next d xs after others left f n le is tail count front back shown more =
     let cut = cut_at xs f le is in
     rw (more, shown, front, back, count, tail, cut, append_assoc) refl
+
+-- ---- digests
+
+pub digests_more : (xs : List FileRecord) (i : ℕ) (x : FileRecord) → i < length xs
+    → x ≡ get_or xs i x → HaveDigests (take i xs) → IsDigest x.fingerprint.md5
+    → HaveDigests (take (i + 1) xs)
+digests_more xs i x lt at all is =
+    subst HaveDigests
+    (sym (take_more xs i x lt ∙ ap (λ (y : FileRecord). take i xs ++ y ∷ []) (sym at)))
+    (join (take i xs) (x ∷ []) all (is, tt))
+  where
+    join : (us bs : List FileRecord) → HaveDigests us → HaveDigests bs → HaveDigests (us ++ bs)
+    join [] bs p q = q
+    join (a ∷ us) bs p q = (p.0, join us bs p.1 q)
+
+digests_join : (n : ℕ) (xs : List FileRecord) → HaveDigests (take n xs)
+    → HaveDigests (drop n xs) → HaveDigests xs
+digests_join n [] p q = tt
+digests_join zero (x ∷ xs) p q = q
+digests_join (suc n) (x ∷ xs) p q = (p.0, digests_join n xs p.1 q)
+
+-- the files of a table, and those that are left
+pub digests_rest : (xs after others left : List FileRecord) (f : FileRecord) (n : ℕ)
+    → 1 ≤ length xs → f ≡ get_or xs 0 f → after ≡ drop 1 xs → others ≡ take n after
+    → left ≡ drop n after → HaveDigests (f ∷ others) → HaveDigests left → HaveDigests xs
+digests_rest [] after others left f n le is tail front back here more = tt
+digests_rest (x ∷ xs) after others left f n le is tail front back here more =
+    let first : IsDigest x.fingerprint.md5 =
+    subst (λ (g : FileRecord). IsDigest g.fingerprint.md5) is here.0 in
+    let taken : HaveDigests (take n xs) =
+    subst HaveDigests (front ∙ ap (take n) tail) here.1 in
+    let dropped : HaveDigests (drop n xs) = subst HaveDigests (back ∙ ap (drop n) tail) more in
+    (first, digests_join n xs taken dropped)

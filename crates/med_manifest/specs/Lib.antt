@@ -1,4 +1,7 @@
 pub mod Manifest
+pub mod Named
+pub mod Places
+pub mod Refusals
 pub mod Tree
 pub mod Whole
 pub mod Written

@@ -1,6 +1,7 @@
 -- The canonical text of a manifest: a JSON list of tables, each with its files, with no space.
 -- This project's own form: keys in byte order, tables and files in order of their keys.
-use Rattle.std.specs.Prelude.{ℕ, Bool, ◌&&◌, List, [], ◌∷◌, map, codes, if◌then◌else◌}
+use Rattle.std.specs.Prelude.{◌≡◌, ◌<◌, ℕ, Bool, ◌&&◌, length, slice_index, List, [], ◌∷◌, map, codes, if◌then◌else◌}
+use Rattle.std.specs.List.{AllByRecursion}
 use Rattle.std.specs.Str.{bytes_eq}
 use Rattle.hex.specs.Hex.{encode_lower}
 use Rattle.serde_json.specs.Data.{Data, string, number, unsigned, array, object, member, no_members}
@@ -45,3 +46,12 @@ manifest_data files = array (items_of (map table_data (tables files)))
 
 abbrev pub manifest_text : List FileRecord → List ℕ
 manifest_text files = compact_text (manifest_data files)
+
+-- the digest is sixteen bytes
+pub record IsDigest (md5 : List ℕ) : Type 0 where
+  pub length : length md5 ≡ 16
+  pub bytes : (i : ℕ) → slice_index md5 i < 256
+
+-- the digest of each of the files is
+abbrev pub HaveDigests : List FileRecord → Type 0
+HaveDigests files = AllByRecursion (λ (r : FileRecord). IsDigest r.fingerprint.md5) files

@@ -5,10 +5,16 @@
 //! text, whoever wrote it.
 #![tactic(auto)]
 
+mod laws;
 mod manifest;
+mod records;
+mod shape;
+mod why;
 mod written;
 
+pub use laws::manifests_are_one;
 pub use manifest::{FileRecord, Manifest};
+pub use why::{ManifestError, ManifestWhy};
 
 #[cfg(test)]
 mod tests;

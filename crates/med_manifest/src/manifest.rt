@@ -1,14 +1,19 @@
 // The files of a backup.
-ghost use Rattle.std.specs.Prelude.{◌≡◌, ℕ, List, Some, IfOk, map};
+ghost use Rattle.std.specs.Prelude.{◌≡◌, ℕ, List, Some, IfOk, IfErr, map};
 ghost use Rattle.std.specs.List.{AllByRecursion};
 ghost use Rattle.std.specs.Str.{IsUtf8};
 ghost use Rattle.serde_json.specs.Read.{read};
 ghost use Rattle.med_base.specs.Key.{AreRising, IsKey};
 ghost use Rattle.med_manifest.specs.Written.{manifest_data, manifest_text};
+ghost use Rattle.med_manifest.specs.declared.manifest.FileRecord.{FileRecord};
 ghost use Rattle.med_manifest.specs.Manifest.{IsManifest, IsPathOf};
+ghost use Rattle.med_manifest.specs.Refusals.{BlamesManifest, RefusesManifest};
 
+use crate::ManifestError;
+use crate::records::records_of;
+use crate::shape::{named_files, value_of};
 use crate::written::manifest_value;
-use med_base::{FileKey, Fingerprint, NoMemory, ObjPath};
+use med_base::{BackupName, FileKey, Fingerprint, Fqdn, Layout, NoMemory, ObjPath};
 use std::alloc::Global;
 
 /// A file of a backup: its key in the snapshot, the path of the object that holds it, and the size
@@ -41,9 +46,35 @@ impl Manifest {
             → AllByRecursion (λ r. IsKey r.key) self.now.files.items
             → AllByRecursion (λ r. IsPathOf before f n r.key r.path) self.now.files.items
             → IsManifest before f n text.items self.now.files.items) }
+        ensures names_no_other { IfOk result
+            (λ text. (before f n : List ℕ)
+            → AllByRecursion (λ r. IsKey r.key) self.now.files.items
+            → AllByRecursion (λ r. IsPathOf before f n r.key r.path) self.now.files.items
+            → (files : List FileRecord) → IsManifest before f n text.items files
+            → files ≡ self.now.files.items) }
     {
         let value = manifest_value(alloc, self.files.as_slice())?;
         let text = value.to_string(alloc)?;
         Ok(text.into_bytes())
+    }
+    /// The files of which these bytes are the manifest, for the backup of that name and node, in
+    /// the order of the text. Any text with the keys of a manifest is read: keys in any order, other
+    /// keys beside them, the last of a repeated key, an MD5 in either spelling.
+    pub fn read(
+        alloc: Global,
+        layout: &Layout,
+        node: &Fqdn,
+        name: &BackupName,
+        bytes: &[u8],
+    ) -> Result<Manifest, ManifestError>
+        ensures ok { IfOk result
+            (λ m. IsManifest layout.now node.now name.now bytes.now m.files.items) }
+        ensures err { IfErr result (BlamesManifest layout.now node.now name.now bytes.now) }
+        ensures refused { IfErr result (RefusesManifest layout.now node.now name.now bytes.now) }
+    {
+        let value = value_of(alloc, bytes)?;
+        let named = named_files(alloc, &value)?;
+        let files = records_of(alloc, layout, node, name, named.as_slice())?;
+        Ok(Manifest { files })
     }
 }

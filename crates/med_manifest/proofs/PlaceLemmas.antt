@@ -1,0 +1,102 @@
+-- The key of a named file is told by the kind of its path.
+use Rattle.std.proofs.Common.{◌≡◌, ◌∙◌, ◌&&◌, ℕ, Bool, true, false, List, Option, Some, None, IfSome, inl, inr, refl, sym, ap, subst, option_map}
+use Rattle.std.specs.Prelude.{if◌then◌else◌}
+use Rattle.std.specs.Str.{bytes_eq}
+use Rattle.std.proofs.lemmas.Slice.Eq.{slice_eq-Decides}
+use Rattle.std.proofs.lemmas.Bool.Decides.{Decides-eqb}
+use Rattle.med_base.specs.declared.key.FileKey.{FileKey}
+use Rattle.med_base.specs.Classify.{kind_of}
+use Rattle.med_base.specs.Key.{IsKey}
+use Rattle.med_base.specs.KindOf.{IsOfKind}
+use Rattle.med_base.specs.Kinds.{Kind, Shared, Own, Meta, Entry, Latest, Stray, Other, IsFqdn, IsBackupName, IsBuilt, IsValid}
+use Rattle.med_base.specs.Layout.{shared_path, own_path}
+use Rattle.med_base.proofs.KindsMade.{built_is_told}
+use Rattle.med_manifest.specs.Manifest.{IsPathOf, IsKeyOf}
+use Rattle.med_manifest.specs.Named.{Named}
+use Rattle.med_manifest.specs.Places.{is_of_table, file_told, key_told}
+
+bytes_from : (a b : List ℕ) → bytes_eq a b ≡ true → a ≡ b
+bytes_from a b = (slice_eq-Decides Decides-eqb a b (bytes_eq a b) refl).0
+
+bytes_same : (a : List ℕ) → bytes_eq a a ≡ true
+bytes_same a = (slice_eq-Decides Decides-eqb a a (bytes_eq a a) refl).1 refl
+
+both : (a b : Bool) → (a && b) ≡ true → (a ≡ true) × (b ≡ true)
+both true b e = (refl, e)
+both false b e = absurd (cc)
+
+some_from : {X : Type 0} (b : Bool) (x y : X) → (if b then Some x else None) ≡ Some y
+    → (b ≡ true) × (x ≡ y)
+some_from true x y e = (refl, cc)
+some_from false x y e = absurd (cc)
+
+-- a key of the table of the named file is told by its file
+key_is : (file : Named) (key : FileKey) → is_of_table file key ≡ true
+    → key ≡ key_told file key.file
+key_is file key e =
+    let parts = both _ _ e in
+    let keyspace = bytes_from key.keyspace file.keyspace parts.0 in
+    let table = bytes_from key.table file.table parts.1 in
+    λ i. record { keyspace = keyspace i; table = table i; file = key.file }
+
+key_at : (before f n : List ℕ) (file : Named) (key : FileKey) (text : List ℕ)
+    → is_of_table file key ≡ true → key.file ≡ text → IsKey key
+    → IsPathOf before f n key file.path → IsKeyOf before f n file (key_told file text)
+key_at before f n file key text e same valid place =
+    let is : key ≡ key_told file text = key_is file key e ∙ ap (key_told file) same in
+    record {
+      keyspace_is = refl;
+      table_is = refl;
+      key_is = subst IsKey is valid;
+      place_is = subst (λ (k : FileKey). IsPathOf before f n k file.path) is place;
+    }
+
+-- a file that is told is that of a key
+pub told_is : (before f n : List ℕ) (file : Named) (kind : Kind) (text : List ℕ)
+    → IsOfKind before file.path kind → file_told f n file kind ≡ Some text
+    → IsKeyOf before f n file (key_told file text)
+told_is before f n file (Shared owner key) text is e =
+    let found = some_from _ key.file text e in
+    let tests = both _ _ found.0 in
+    let owner_is = bytes_from owner f tests.0 in
+    let path : file.path ≡ shared_path before owner key = cc (sym is.built) in
+    key_at before f n file key text tests.1 found.1 is.valid.1
+    (inl (path ∙ ap (λ (o : List ℕ). shared_path before o key) owner_is))
+told_is before f n file (Own owner backup key) text is e =
+    let found = some_from _ key.file text e in
+    let tests = both _ _ found.0 in
+    let more = both _ _ tests.1 in
+    let owner_is = bytes_from owner f tests.0 in
+    let backup_is = bytes_from backup n more.0 in
+    let path : file.path ≡ own_path before owner backup key = cc (sym is.built) in
+    key_at before f n file key text more.1 found.1 is.valid.2
+    (inr (path ∙ ap (λ (o : List ℕ). own_path before o backup key) owner_is
+    ∙ ap (λ (b : List ℕ). own_path before f b key) backup_is))
+told_is before f n file (Meta owner backup kind) text is e = absurd (cc)
+told_is before f n file (Entry owner backup kind) text is e = absurd (cc)
+told_is before f n file (Latest owner kind) text is e = absurd (cc)
+told_is before f n file (Stray owner backup) text is e = absurd (cc)
+told_is before f n file Other text is e = absurd (cc)
+
+of_table : (file : Named) (key : FileKey) → key.keyspace ≡ file.keyspace
+    → key.table ≡ file.table → is_of_table file key ≡ true
+of_table file key keyspace table =
+    rw (keyspace, table, bytes_same file.keyspace, bytes_same file.table) refl
+
+-- the file of a key of the backup is told
+pub is_told : (before f n : List ℕ) (file : Named) (key : FileKey) → IsFqdn f → IsBackupName n
+    → IsKeyOf before f n file key
+    → file_told f n file (kind_of before file.path) ≡ Some key.file
+is_told before f n file key node name is =
+    let table = of_table file key is.keyspace_is is.table_is in
+    elim is.place_is [
+      | inl path ↦
+          let built : IsBuilt before file.path (Shared f key) =
+          record { valid = (node, is.key_is); built = ap Some (sym path) } in
+          rw (built_is_told before file.path (Shared f key) built, bytes_same f, table) refl
+      | inr path ↦
+          let built : IsBuilt before file.path (Own f n key) =
+          record { valid = (node, name, is.key_is); built = ap Some (sym path) } in
+          rw (built_is_told before file.path (Own f n key) built, bytes_same f, bytes_same n, table)
+          refl
+    ]

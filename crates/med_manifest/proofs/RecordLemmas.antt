@@ -1,0 +1,146 @@
+-- A loop that reads named files into records, and stops at the first fault.
+use Rattle.std.proofs.Common.{◌≡◌, ◌∙◌, ◌<◌, ◌+◌, ◌||◌, ℕ, zero, suc, Bool, true, false, true≢false, not, cond, refl, sym, ap, subst, List, [], ◌∷◌, ◌++◌, map, length, take, drop, get_or, arith}
+use Rattle.std.specs.BTreeSet.{BTreeSet, contains, Updates}
+use Rattle.std.specs.Cmp.{eq_by_cmp_equiv}
+use Rattle.std.specs.List.{AllZip, IsDistinct, list_any, Contains}
+use Rattle.std.proofs.lemmas.List.{map-append}
+use Rattle.std.proofs.lemmas.List.Folds.{list_any-append}
+use Rattle.std.proofs.lemmas.Map.Keys.{IsDistinct-push}
+use Rattle.std.proofs.lemmas.Map.Views.{Contains-from_any}
+use Rattle.std.specs.Ordering.{is_eq}
+use Rattle.std.specs.declared.cmp.Ordering.{Ordering}
+use Rattle.std.specs.declared.cmp.Ordering.TheVariants.{Less, Equal, Greater}
+use Rattle.med_base.specs.declared.key.FileKey.{FileKey}
+use Rattle.med_base.specs.Key.{key_cmp, key_eq}
+use Rattle.med_base.specs.KeyOrder.{key_total, key_exact}
+use Rattle.med_manifest.specs.declared.manifest.FileRecord.{FileRecord}
+use Rattle.med_manifest.specs.declared.shape.NamedFile.{NamedFile}
+use Rattle.med_manifest.specs.declared.why.ManifestError.{ManifestError}
+use Rattle.med_manifest.specs.declared.why.ManifestError.TheVariants.{Why, Memory}
+use Rattle.med_manifest.specs.declared.why.ManifestWhy.TheVariants.{DuplicatePath}
+use Rattle.med_manifest.specs.Manifest.{IsRecordOf, AreRecords}
+use Rattle.med_manifest.specs.Named.{Named, named}
+use Rattle.med_manifest.specs.Refusals.{BlamesFile, BlamesFiles, IsFirstFault}
+use Rattle.med_manifest.proofs.Zips.{zip_next, length_zip, map_around, length_front}
+
+pub none_distinct : IsDistinct key_eq []
+unfolding IsDistinct
+none_distinct = tt
+
+-- the default of a look-up in a list of named files
+abbrev pub nothing : NamedFile
+nothing = record {
+  keyspace = record { ref_ptr = (0, 0); now = [] };
+  table = record { ref_ptr = (0, 0); now = [] };
+  path = record { ref_ptr = (0, 0); now = [] };
+  size = 0;
+  md5 = record { ref_ptr = (0, 0); now = [] };
+}
+
+-- an item is the same whatever the default is
+pub item_is : {X : Type 0} (xs : List X) (i : ℕ) (d : X) → i < length xs
+    → get_or xs i d ≡ get_or xs i (get_or xs i d)
+item_is [] i d lt = absurd (omega arith)
+item_is (x ∷ xs) zero d lt = refl
+item_is {X} (x ∷ xs) (suc i) d lt = item_is xs i d (omega arith)
+
+pub was_seen : (is_new b : Bool) → is_new ≡ not b → is_new ≡ false → b ≡ true
+was_seen is_new true e g = refl
+was_seen is_new false e g = absurd (true≢false (sym e ∙ g))
+
+pub was_fresh : (is_new b : Bool) → is_new ≡ not b → is_new ≡ true → b ≡ false
+was_fresh is_new false e g = refl
+was_fresh is_new true e g = absurd (true≢false (sym g ∙ e))
+
+abbrev pub keys_of : List FileRecord → List FileKey
+keys_of records = map (λ (r : FileRecord). r.key) records
+
+is_equal : (o : Ordering) → is_eq o ≡ true → o ≡ Equal
+is_equal Less e = absurd (cc)
+is_equal Equal e = refl
+is_equal Greater e = absurd (cc)
+
+-- keys that no part tells apart are one key
+pub same_key : (a b : FileKey) → key_eq a b ≡ true → a ≡ b
+same_key a b e = key_exact a b (is_equal (key_cmp a b) e)
+
+module _ (before f n : List ℕ) (files : List NamedFile) (i : ℕ) (raw : NamedFile)
+    (earlier : List FileRecord) (lt : i < length files) (at : raw ≡ get_or files i raw)
+    (are : AreRecords before f n (map named (take i files)) earlier) where
+  count : length earlier ≡ i
+  count =
+      sym (length_zip (IsRecordOf before f n) (map named (take i files)) earlier are.each)
+      ∙ length_front named files i (omega arith)
+
+  -- an error over the next file is one over all files
+  pub first_fault : (e : ManifestError)
+      → ((es : List FileRecord) → length es ≡ i → BlamesFile before f n es (named raw) e)
+      → BlamesFiles before f n (map named files) e
+  first_fault Memory blames = tt
+  first_fault (Why why) blames = record {
+    good = map named (take i files);
+    bad = named raw;
+    rest = map named (drop (suc i) files);
+    files_are = map_around named files i raw lt at;
+    earlier = earlier;
+    records = are;
+    fault = blames earlier count;
+  }
+
+  -- the next file is one that was seen
+  pub repeated : (r : FileRecord) → IsRecordOf before f n (named raw) r
+      → list_any (key_eq r.key) (keys_of earlier) ≡ true
+      → IsFirstFault before f n (map named files) (DuplicatePath r.path)
+  repeated r is seen = record {
+    good = map named (take i files);
+    bad = named raw;
+    rest = map named (drop (suc i) files);
+    files_are = map_around named files i raw lt at;
+    earlier = earlier;
+    records = are;
+    fault = (
+      is.path_is,
+      record {
+        again = r;
+        is = is;
+        stood = Contains-from_any same_key r.key (keys_of earlier) seen;
+      },
+    );
+  }
+
+  -- the next file is one that was not
+  pub records_next : (r : FileRecord) (all : List FileRecord) → IsRecordOf before f n (named raw) r
+      → list_any (key_eq r.key) (keys_of earlier) ≡ false → all ≡ earlier ++ r ∷ []
+      → AreRecords before f n (map named (take (i + 1) files)) all
+  records_next r all is fresh all_are = record {
+    each = zip_next (IsRecordOf before f n) named files earlier all i raw r lt at are.each is all_are;
+    once =
+        subst (IsDistinct key_eq)
+        (sym (ap keys_of all_are ∙ map-append (λ (q : FileRecord). q.key) earlier (r ∷ [])))
+        (IsDistinct-push (eq_by_cmp_equiv key_total) (keys_of earlier) r.key are.once fresh);
+  }
+
+or_last : (a b : Bool) → cond b true a ≡ (a || (b || false))
+or_last true true = refl
+or_last true false = refl
+or_last false true = refl
+or_last false false = refl
+
+-- the keys seen are those of the records
+pub seen_next : (old new : BTreeSet FileKey) (key : FileKey) (r : FileRecord)
+    (earlier all : List FileRecord) → key ≡ r.key → Updates key_cmp old new key true
+    → ((k : FileKey) → contains key_cmp old k ≡ list_any (key_eq k) (keys_of earlier))
+    → all ≡ earlier ++ r ∷ []
+    → (k : FileKey) → contains key_cmp new k ≡ list_any (key_eq k) (keys_of all)
+seen_next old new key r earlier all same update seen all_are k =
+    let flip : key_eq key k ≡ key_eq k key = (eq_by_cmp_equiv key_total).symm key k in
+    let keys : keys_of all ≡ keys_of earlier ++ r.key ∷ [] =
+    ap keys_of all_are ∙ map-append (λ (q : FileRecord). q.key) earlier (r ∷ []) in
+    let with_last : list_any (key_eq k) (keys_of all)
+    ≡ (list_any (key_eq k) (keys_of earlier) || (key_eq k r.key || false)) =
+    ap (list_any (key_eq k)) keys ∙ list_any-append (key_eq k) (keys_of earlier) (r.key ∷ []) in
+    update.0 k ∙ ap (λ (b : Bool). cond b true (contains key_cmp old k)) flip
+    ∙ or_last (contains key_cmp old k) (key_eq k key)
+    ∙ ap (λ (b : Bool). b || (key_eq k key || false)) (seen k)
+    ∙ ap (λ (j : FileKey). list_any (key_eq k) (keys_of earlier) || (key_eq k j || false)) same
+    ∙ sym with_last

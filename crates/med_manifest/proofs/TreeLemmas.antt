@@ -1,0 +1,138 @@
+-- The files of tables, table after table.
+use Rattle.std.proofs.Common.{◌≡◌, ◌∙◌, ◌<◌, ◌+◌, ℕ, suc, Bool, true, false, not, true≢false, Option, Some, None, Result, Ok, Err, IfOk, IfSome, refl, sym, ap, subst, List, [], ◌∷◌, ◌++◌, map, flat_map, length, take, drop, get_or, append_assoc, codes, arith}
+use Rattle.std.specs.Prelude.{is_none}
+use Rattle.std.specs.List.{AllZip, AllByRecursion}
+use Rattle.std.proofs.lemmas.List.{append-nil}
+use Rattle.serde_json.specs.Data.{Data}
+use Rattle.serde_json.specs.Find.{as_array}
+use Rattle.serde_json.specs.declared.value.Value.{Value}
+use Rattle.serde_json.specs.View.{view, items_view}
+use Rattle.med_base.specs.Names.{component_fault}
+use Rattle.med_manifest.specs.declared.why.ManifestError.{ManifestError}
+use Rattle.med_manifest.specs.declared.why.ManifestError.TheVariants.{Why, Memory}
+use Rattle.med_manifest.specs.declared.why.ManifestWhy.TheVariants.{NotJson, NotManifest, BadDigest, ForeignPath, DuplicatePath}
+use Rattle.med_manifest.specs.Named.{Named, IsFile, IsTable, IsShaped, AreTables, IsFirstUnshaped, IsText, HasFiles}
+use Rattle.med_manifest.specs.Refusals.{BlamesTables, BlamesManifest, IsUnshapedAt, no_table}
+use Rattle.med_manifest.specs.Tree.{items_in, text_at, list_at}
+use Rattle.med_manifest.proofs.Zips.{zip_next, each_has, map_around, length_front}
+
+-- the items of a value are those of its list
+pub same_values : (vs : List Value) → items_in (items_view vs) ≡ map view vs
+same_values [] = refl
+same_values (v ∷ vs) = ap (λ (ds : List Data). view v ∷ ds) (same_values vs)
+
+joined : List (List Named) → List Named
+joined tables = flat_map (λ (table : List Named). table) tables
+
+joined_push : (tables : List (List Named)) (more : List Named)
+    → joined (tables ++ more ∷ []) ≡ joined tables ++ more
+unfolding joined
+joined_push [] more = append-nil more
+joined_push (table ∷ tables) more =
+    ap (λ (files : List Named). table ++ files) (joined_push tables more)
+    ∙ sym (append_assoc table (joined tables) more)
+
+-- one more table
+pub tables_next : (list : List Value) (files more all : List Named) (i : ℕ) (v : Value)
+    → i < length list → v ≡ get_or list i v → AreTables (map view (take i list)) files
+    → IsTable (view v) more → all ≡ files ++ more → AreTables (map view (take (i + 1) list)) all
+unfolding joined
+tables_next list files more all i v lt at so is all_is = record {
+  tables = so.tables ++ more ∷ [];
+  tables_are =
+      zip_next IsTable view list so.tables (so.tables ++ more ∷ []) i v more lt at so.tables_are is
+      refl;
+  files_are =
+      all_is ∙ ap (λ (fs : List Named). fs ++ more) so.files_are
+      ∙ sym (joined_push so.tables more);
+}
+
+-- the first item that is no table
+pub first_unshaped : (list : List Value) (files : List Named) (i : ℕ) (v : Value)
+    → i < length list → v ≡ get_or list i v → AreTables (map view (take i list)) files
+    → ((more : List Named) → IsTable (view v) more → ⊥) → IsFirstUnshaped (map view list) i
+first_unshaped list files i v lt at so none = record {
+  good = map view (take i list);
+  bad = view v;
+  rest = map view (drop (suc i) list);
+  items_are = map_around view list i v lt at;
+  at_is = sym (length_front view list i (omega arith));
+  tables_before = each_has IsTable (map view (take i list)) so.tables so.tables_are;
+  no_table = λ s. none s.0 s.1;
+}
+
+-- ---- a table
+
+none_from : {X : Type 0} (o : Option X) → true ≡ is_none o → o ≡ None
+none_from None e = refl
+none_from (Some x) e = absurd (true≢false e)
+
+-- a text that was tested is a component
+pub component_from : (text : List ℕ) (b : Bool) → b ≡ is_none (component_fault text) → b ≡ true
+    → component_fault text ≡ None
+component_from text b e g = none_from (component_fault text) (sym g ∙ e)
+
+pub table_is : (d : Data) (keyspace table : List ℕ) (list : List Value) (files : List Named)
+    → text_at (codes "keyspace") d ≡ Some keyspace
+    → text_at (codes "columnfamily") d ≡ Some table → component_fault keyspace ≡ None
+    → component_fault table ≡ None → list_at (codes "objects") d ≡ Some (items_view list)
+    → AllZip (IsFile keyspace table) (map view list) files → IsTable d files
+table_is d keyspace table list files keyspace_is named_so keyspace_fits table_fits objects zip =
+    record {
+      keyspace = keyspace;
+      table = table;
+      keyspace_is = keyspace_is;
+      table_is = named_so;
+      keyspace_fits = keyspace_fits;
+      table_fits = table_fits;
+      objects = items_view list;
+      objects_are = objects;
+      files_are =
+          subst (λ (ds : List Data). AllZip (IsFile keyspace table) ds files)
+          (sym (same_values list)) zip;
+    }
+
+-- the files of a table are those of its list
+pub in_list : (d : Data) (keyspace table : List ℕ) (list : List Value) (files : List Named)
+    → text_at (codes "keyspace") d ≡ Some keyspace
+    → text_at (codes "columnfamily") d ≡ Some table
+    → list_at (codes "objects") d ≡ Some (items_view list) → IsTable d files
+    → AllZip (IsFile keyspace table) (map view list) files
+in_list d keyspace table list files keyspace_is named_so objects is =
+    let same_keyspace : is.keyspace ≡ keyspace = cc (sym is.keyspace_is ∙ keyspace_is) in
+    let same_table : is.table ≡ table = cc (sym is.table_is ∙ named_so) in
+    let same_objects : is.objects ≡ items_view list = cc (sym is.objects_are ∙ objects) in
+    let items : items_in is.objects ≡ map view list = ap items_in same_objects ∙ same_values list in
+    subst (λ (k : List ℕ). AllZip (IsFile k table) (map view list) files) same_keyspace
+    (subst (λ (t : List ℕ). AllZip (IsFile is.keyspace t) (map view list) files) same_table
+    (subst (λ (ds : List Data). AllZip (IsFile is.keyspace is.table) ds files) items is.files_are))
+
+-- ---- the whole value
+
+pub has_files : (d : Data) (list : List Value) (files : List Named)
+    → as_array d ≡ Some (items_view list) → AreTables (map view list) files → HasFiles d files
+has_files d list files is tables = record {
+  list = items_view list;
+  list_is = is;
+  tables = subst (λ (ds : List Data). AreTables ds files) (sym (same_values list)) tables;
+}
+
+pub unshaped : (d : Data) (list : List Value) (e : ManifestError)
+    → as_array d ≡ Some (items_view list) → BlamesTables (map view list) e
+    → (before f n bytes : List ℕ) → IsText bytes d → BlamesManifest before f n bytes e
+unshaped d list Memory is blames before f n bytes text = tt
+unshaped d list (Why NotJson) is blames before f n bytes text = absurd blames
+unshaped d list (Why (NotManifest at)) is blames before f n bytes text =
+    let first = subst (λ (ds : List Data). IsFirstUnshaped ds at) (sym (same_values list)) blames in
+    (d, text, no_table (items_view list) is first)
+unshaped d list (Why (BadDigest at)) is blames before f n bytes text = absurd blames
+unshaped d list (Why (ForeignPath path)) is blames before f n bytes text = absurd blames
+unshaped d list (Why (DuplicatePath path)) is blames before f n bytes text = absurd blames
+
+-- ---- answers of a reader
+
+pub some_weaker : {X E : Type 0} (r : Result (Option X) E) (P Q : X → Type 0)
+    → ((x : X) → P x → Q x) → IfOk r (λ o. IfSome o P) → IfOk r (λ o. IfSome o Q)
+some_weaker (Err e) P Q more h = tt
+some_weaker (Ok None) P Q more h = tt
+some_weaker (Ok (Some x)) P Q more h = more x h

@@ -1,0 +1,5 @@
+use Rattle.med_manifest.proofs.Once.{manifest_once}
+use Rattle.med_manifest.proofs.laws.manifests_are_one.Goals as goal
+
+pub returns : goal.returns
+returns c = manifest_once

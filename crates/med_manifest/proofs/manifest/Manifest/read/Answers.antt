@@ -1,0 +1,53 @@
+use Rattle.std.proofs.Common.{rules, ◌≡◌, ◌∙◌, ℕ, List, map, ap, sym, subst}
+use Rattle.serde_json.specs.View.{view}
+use Rattle.med_manifest.specs.declared.shape.NamedFile.{NamedFile}
+use Rattle.med_manifest.specs.Manifest.{AreRecords}
+use Rattle.med_manifest.specs.Named.{Named, named, NamesFiles}
+use Rattle.med_manifest.specs.Refusals.{BlamesFiles, BlamesManifest, RefusesManifest}
+use Rattle.med_manifest.proofs.Refused.{refused, named_blamed}
+use Rattle.med_manifest.proofs.manifest.Manifest.read.Goals as goal
+
+pub returns-in_err-value-clause-err : goal.returns-in_err-value-clause-err
+returns-in_err-value-clause-err c =
+    let blames : BlamesManifest c.args.layout.now c.args.node.now c.args.name.now c.args.bytes.now
+    c.in_err-value.field-0.0 = c.in_err-value.ensures.err _ _ _ in
+    search rules
+
+pub returns-in_err-value-clause-refused : goal.returns-in_err-value-clause-refused
+returns-in_err-value-clause-refused c =
+    let refuses : RefusesManifest c.args.layout.now c.args.node.now c.args.name.now c.args.bytes.now
+    c.in_err-value.field-0.0 = refused _ _ _ _ _ (c.in_err-value.ensures.err _ _ _) in
+    search rules
+
+pub returns-in_err-named-clause-err : goal.returns-in_err-named-clause-err
+returns-in_err-named-clause-err c =
+    let blames : BlamesManifest c.args.layout.now c.args.node.now c.args.name.now c.args.bytes.now
+    c.in_err-named.field-0.0 = c.in_err-named.ensures.err _ _ _ _ c.in_ok-value.ensures.ok in
+    search rules
+
+pub returns-in_err-named-clause-refused : goal.returns-in_err-named-clause-refused
+returns-in_err-named-clause-refused c =
+    let refuses : RefusesManifest c.args.layout.now c.args.node.now c.args.name.now c.args.bytes.now
+    c.in_err-named.field-0.0 =
+    refused _ _ _ _ _ (c.in_err-named.ensures.err _ _ _ _ c.in_ok-value.ensures.ok) in
+    search rules
+
+pub returns-in_err-files-clause-refused : goal.returns-in_err-files-clause-refused
+returns-in_err-files-clause-refused c =
+    let layout = c.args.layout.now in
+    let node = c.args.node.now in
+    let name = c.args.name.now in
+    let e = c.in_err-files.field-0.0 in
+    let names : NamesFiles c.args.bytes.now (map named c.in_ok-named.named.items) =
+    record {
+      tree = view c.in_ok-value.value;
+      text = c.in_ok-value.ensures.ok;
+      has = c.in_ok-named.ensures.ok;
+    } in
+    let blames : BlamesFiles layout node name (map named c.in_ok-named.named.items) e =
+    subst (λ (fs : List NamedFile). BlamesFiles layout node name (map named fs) e)
+    c.as_slice.ensures.value c.in_err-files.ensures.err in
+    let refuses : RefusesManifest layout node name c.args.bytes.now e =
+    refused layout node name c.args.bytes.now e
+    (named_blamed layout node name c.args.bytes.now _ e names blames) in
+    search rules

@@ -1,0 +1,63 @@
+use Rattle.std.proofs.Common.{rules, ◌≡◌, ◌∙◌, Bool, true, false, List, map, ap, sym, take, get_or, refl, arith}
+use Rattle.std.specs.BTreeSet.{contains}
+use Rattle.std.specs.List.{list_any}
+use Rattle.med_base.specs.declared.key.FileKey.{FileKey}
+use Rattle.med_base.specs.Key.{key_cmp, key_eq}
+use Rattle.med_manifest.specs.declared.shape.NamedFile.{NamedFile}
+use Rattle.med_manifest.specs.Named.{Named, named}
+use Rattle.med_manifest.specs.Refusals.{BlamesFiles}
+use Rattle.med_manifest.proofs.RecordLemmas.{none_distinct, nothing, item_is, was_seen, was_fresh, keys_of, first_fault, repeated, records_next, seen_next}
+use Rattle.med_manifest.proofs.records.records_of.Goals as goal
+
+pub loop-at-init : goal.loop-at-init
+loop-at-init c = record {
+  are = rw c.new-records.ensures.items (record { each = tt; once = none_distinct });
+  seen = λ k. rw (c.new-seen.ensures.empty, c.new-records.ensures.items) refl;
+}
+
+pub returns-in_err-record-clause-err : goal.returns-in_err-record-clause-err
+returns-in_err-record-clause-err c =
+    let files : List NamedFile = c.args.files.now in
+    let i = c.loop-at.at in
+    let blames : BlamesFiles c.args.layout.now c.args.node.now c.args.name.now
+    (map named c.args.files.now) c.in_err-record.field-0.0 =
+    first_fault c.args.layout.now c.args.node.now c.args.name.now files i (get_or files i nothing)
+    c.loop-at.records.items (omega arith) (item_is files i nothing (omega arith))
+    c.loop-at.invariant.are c.in_err-record.field-0.0 c.in_err-record.ensures.err in
+    search rules
+
+pub returns-then-not-branch-clause-err : goal.returns-then-not-branch-clause-err
+returns-then-not-branch-clause-err c =
+    let files : List NamedFile = c.args.files.now in
+    let i = c.loop-at.at in
+    let key = c.in_ok-record.record.key in
+    let has : contains key_cmp c.loop-at.seen c.in_ok-copy.field-0 ≡ true =
+    was_seen c.in_ok-insert.field-0 _ c.in_ok-insert.ensures.added c.if-not-branch.true in
+    let seen : list_any (key_eq key) (keys_of c.loop-at.records.items) ≡ true =
+    sym (c.loop-at.invariant.seen key)
+    ∙ ap (contains key_cmp c.loop-at.seen) (sym c.in_ok-copy.ensures) ∙ has in
+    repeated c.args.layout.now c.args.node.now c.args.name.now files i (get_or files i nothing)
+    c.loop-at.records.items (omega arith) (item_is files i nothing (omega arith))
+    c.loop-at.invariant.are c.in_ok-record.record c.in_ok-record.ensures.ok seen
+
+pub loop-at-preserved : goal.loop-at-preserved
+loop-at-preserved c =
+    let files : List NamedFile = c.args.files.now in
+    let i = c.loop-at.at in
+    let key = c.in_ok-record.record.key in
+    let lacks : contains key_cmp c.loop-at.seen c.in_ok-copy.field-0 ≡ false =
+    was_fresh c.in_ok-insert.field-0 _ c.in_ok-insert.ensures.added c.if-not-branch.false in
+    let fresh : list_any (key_eq key) (keys_of c.loop-at.records.items) ≡ false =
+    sym (c.loop-at.invariant.seen key)
+    ∙ ap (contains key_cmp c.loop-at.seen) (sym c.in_ok-copy.ensures) ∙ lacks in
+    record {
+      are =
+          records_next c.args.layout.now c.args.node.now c.args.name.now files i
+          (get_or files i nothing) c.loop-at.records.items (omega arith)
+          (item_is files i nothing (omega arith)) c.loop-at.invariant.are c.in_ok-record.record
+          c.push.new.self.items c.in_ok-record.ensures.ok fresh c.in_ok-push.ensures.items;
+      seen =
+          seen_next c.loop-at.seen c.insert.new.self c.in_ok-copy.field-0 c.in_ok-record.record
+          c.loop-at.records.items c.push.new.self.items c.in_ok-copy.ensures
+          c.in_ok-insert.ensures.updates c.loop-at.invariant.seen c.in_ok-push.ensures.items;
+    }

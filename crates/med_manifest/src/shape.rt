@@ -1,0 +1,162 @@
+// The files that the text of a manifest names.
+ghost use Rattle.std.specs.Prelude.{◌≡◌, IfOk, IfErr, IfSome, List, ℕ, map, None, option_map, is_none};
+ghost use Rattle.std.specs.List.{AllZip};
+ghost use Rattle.serde_json.specs.Data.{Data};
+ghost use Rattle.serde_json.specs.View.{view, items_view};
+ghost use Rattle.med_base.specs.Names.{component_fault};
+ghost use Rattle.med_manifest.specs.Named.{Named, named, IsFile, IsTable, IsText, AreTables, HasFiles, IsFirstUnshaped};
+ghost use Rattle.med_manifest.specs.Refusals.{BlamesManifest, BlamesTables};
+ghost use Rattle.med_manifest.specs.Tree.{text_at, number_at, list_at};
+
+use crate::{ManifestError, ManifestWhy};
+use med_base::{Component, NameError, NoMemory};
+use serde_json::Value;
+use serde_json::error::Category;
+use std::alloc::Global;
+
+/// A file as the text names it.
+#[derive(Clone, Copy, Debug)]
+pub(crate) struct NamedFile<'a> {
+    pub(crate) keyspace: &'a str,
+    pub(crate) table: &'a str,
+    pub(crate) path: &'a str,
+    pub(crate) size: u64,
+    pub(crate) md5: &'a str,
+}
+
+/// The value whose text these bytes are.
+pub(crate) fn value_of(alloc: Global, bytes: &[u8]) -> Result<Value, ManifestError>
+    ensures ok { IfOk result (λ value. IsText bytes.now (view value)) }
+    ensures err { IfErr result
+        (λ e. (before f n : List ℕ) → BlamesManifest before f n bytes.now e) }
+{
+    match Value::from_slice(alloc, bytes) {
+        Ok(value) => Ok(value),
+        Err(error) => match error.classify() {
+            Category::Memory => Err(ManifestError::Memory),
+            _ => Err(ManifestError::Why(ManifestWhy::NotJson)),
+        },
+    }
+}
+
+fn text_in<'a>(value: &'a Value, key: &str) -> Option<&'a str>
+    ensures { option_map (λ s. s.now) result ≡ text_at key.now (view value.now) }
+{
+    value.get(key).and_then(Value::as_str)
+}
+
+fn number_in(value: &Value, key: &str) -> Option<u64>
+    ensures { result ≡ number_at key.now (view value.now) }
+{
+    value.get(key).and_then(Value::as_u64)
+}
+
+fn list_in<'a>(value: &'a Value, key: &str) -> Option<&'a Vec<Value>>
+    ensures { option_map (λ v. items_view v.now.items) result ≡ list_at key.now (view value.now) }
+{
+    value.get(key).and_then(Value::as_array)
+}
+
+// The file of a table that a value is, if it is one.
+fn file_in<'a>(keyspace: &'a str, table: &'a str, value: &'a Value) -> Option<NamedFile<'a>>
+    ensures found { IfSome result
+        (λ file. IsFile keyspace.now table.now (view value.now) (named file)) }
+    ensures none { result ≡ None
+        → (file : Named) → IsFile keyspace.now table.now (view value.now) file → ⊥ }
+{
+    let path = text_in(value, "path")?;
+    let size = number_in(value, "size")?;
+    let md5 = text_in(value, "MD5")?;
+    Some(NamedFile {
+        keyspace,
+        table,
+        path,
+        size,
+        md5,
+    })
+}
+
+// The files of a table that values are, if each is one.
+fn files_in<'a>(
+    alloc: Global,
+    keyspace: &'a str,
+    table: &'a str,
+    list: &'a [Value],
+) -> Result<Option<Vec<NamedFile<'a>>>, NoMemory>
+    ensures found { IfOk result (λ o. IfSome o
+        (λ files. AllZip (IsFile keyspace.now table.now) (map view list.now)
+        (map named files.items))) }
+    ensures none { IfOk result (λ o. o ≡ None → (files : List Named)
+        → AllZip (IsFile keyspace.now table.now) (map view list.now) files → ⊥) }
+{
+    let mut files = Vec::new(alloc);
+    for value in list {
+        let Some(file) = file_in(keyspace, table, value) else {
+            return Ok(None);
+        };
+        files.push(file)?;
+    }
+    Ok(Some(files))
+}
+
+fn is_component(alloc: Global, text: &str) -> Result<bool, NoMemory>
+    ensures { IfOk result (λ is. is ≡ is_none (component_fault text.now)) }
+{
+    match Component::read(alloc, text) {
+        Ok(_) => Ok(true),
+        Err(NameError::BadName { .. }) => Ok(false),
+        Err(NameError::Memory) => Err(NoMemory),
+    }
+}
+
+// The files of the table that a value is, if it is one.
+fn table_in<'a>(alloc: Global, value: &'a Value) -> Result<Option<Vec<NamedFile<'a>>>, NoMemory>
+    ensures found { IfOk result
+        (λ o. IfSome o (λ files. IsTable (view value.now) (map named files.items))) }
+    ensures none { IfOk result
+        (λ o. o ≡ None → (files : List Named) → IsTable (view value.now) files → ⊥) }
+{
+    let Some(keyspace) = text_in(value, "keyspace") else {
+        return Ok(None);
+    };
+    let Some(table) = text_in(value, "columnfamily") else {
+        return Ok(None);
+    };
+    let Some(list) = list_in(value, "objects") else {
+        return Ok(None);
+    };
+    if !is_component(alloc, keyspace)? || !is_component(alloc, table)? {
+        return Ok(None);
+    }
+    files_in(alloc, keyspace, table, list.as_slice())
+}
+
+// The files of the tables that values are.
+fn files_of<'a>(alloc: Global, list: &'a [Value]) -> Result<Vec<NamedFile<'a>>, ManifestError>
+    ensures ok { IfOk result (λ files. AreTables (map view list.now) (map named files.items)) }
+    ensures err { IfErr result (BlamesTables (map view list.now)) }
+{
+    let mut files = Vec::new(alloc);
+    for (at, value) in list.iter().enumerate() {
+        let Some(mut more) = table_in(alloc, value)? else {
+            return Err(ManifestError::Why(ManifestWhy::NotManifest { at }));
+        };
+        files.append(&mut more)?;
+    }
+    Ok(files)
+}
+
+/// The files that a value names as a manifest.
+pub(crate) fn named_files<'a>(
+    alloc: Global,
+    value: &'a Value,
+) -> Result<Vec<NamedFile<'a>>, ManifestError>
+    ensures ok { IfOk result (λ files. HasFiles (view value.now) (map named files.items)) }
+    ensures err { IfErr result (λ e. (before f n bytes : List ℕ) → IsText bytes (view value.now)
+        → BlamesManifest before f n bytes e) }
+{
+    match value.as_array() {
+        Some(list) => files_of(alloc, list.as_slice()),
+        None => Err(ManifestError::Why(ManifestWhy::NotManifest { at: 0 })),
+    }
+}
