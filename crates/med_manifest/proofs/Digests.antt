@@ -22,7 +22,8 @@ one_spelling : (text a b : List ℕ) → decode_hex text ≡ Ok a → length a �
 one_spelling text a b hex sixteen is sixteen_too =
     let digits = decode_of-ok text a hex in
     let twice : length text ≡ 2 * length a = digits.2 in
-    let four : length text ≡ 24 = ap (λ (t : List ℕ). length t) is ∙ length-encode_16 b sixteen_too in
+    let four : length text ≡ 24 =
+    ap (λ (t : List ℕ). length t) is ∙ length-encode_16 b sixteen_too in
     absurd (omega (arith, twice, four, sixteen))
 
 pub digest_once : (text a b : List ℕ) → SpellsMd5 text a → SpellsMd5 text b → a ≡ b

@@ -38,7 +38,8 @@ table_once : (d : Data) (a b : List Named) → IsTable d a → IsTable d b → a
 table_once d a b p q =
     let keyspaces = some_once (text_at (codes "keyspace") d) q.keyspace p.keyspace q.keyspace_is
     p.keyspace_is in
-    let tables = some_once (text_at (codes "columnfamily") d) q.table p.table q.table_is p.table_is in
+    let tables = some_once (text_at (codes "columnfamily") d) q.table p.table q.table_is
+    p.table_is in
     let lists = some_once (list_at (codes "objects") d) q.objects p.objects q.objects_are
     p.objects_are in
     let other : AllZip (IsFile p.keyspace p.table) (items_in p.objects) b =

@@ -113,7 +113,9 @@ module _ (before f n : List ℕ) (files : List NamedFile) (i : ℕ) (raw : Named
       → list_any (key_eq r.key) (keys_of earlier) ≡ false → all ≡ earlier ++ r ∷ []
       → AreRecords before f n (map named (take (i + 1) files)) all
   records_next r all is fresh all_are = record {
-    each = zip_next (IsRecordOf before f n) named files earlier all i raw r lt at are.each is all_are;
+    each =
+        zip_next (IsRecordOf before f n) named files earlier all i raw r lt at are.each is
+        all_are;
     once =
         subst (IsDistinct key_eq)
         (sym (ap keys_of all_are ∙ map-append (λ (q : FileRecord). q.key) earlier (r ∷ [])))

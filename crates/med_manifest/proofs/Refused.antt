@@ -19,6 +19,7 @@ use Rattle.med_manifest.specs.Named.{Named, IsTable, AreTables, IsFirstUnshaped,
 use Rattle.med_manifest.specs.Refusals.{IsUnshapedAt, no_list, no_table, HasFault, IsFirstFault, NamesFault, IsRefused, BlamesFiles, BlamesManifest, RefusesManifest}
 use Rattle.med_manifest.specs.Tree.{items_in}
 use Rattle.med_manifest.proofs.Once.{tree_once, named_once, record_once, records_once}
+use Rattle.med_manifest.proofs.RecordLemmas.{keys_of}
 use Rattle.med_manifest.proofs.Zips.{IsCut, zip_cut}
 
 -- a key behind others from which it is distinct is none of them
@@ -42,7 +43,8 @@ no_records : (before f n : List ℕ) (why : ManifestWhy) (files : List Named)
     → IsFirstFault before f n files why → AreRecords before f n files records → ⊥
 no_records before f n why files records first are =
     let zip : AllZip (IsRecordOf before f n) (first.good ++ first.bad ∷ first.rest) records =
-    subst (λ (fs : List Named). AllZip (IsRecordOf before f n) fs records) first.files_are are.each in
+    subst (λ (fs : List Named). AllZip (IsRecordOf before f n) fs records) first.files_are
+    are.each in
     by why first.fault
     (zip_cut (IsRecordOf before f n) first.good first.bad first.rest records zip)
   where
@@ -57,18 +59,16 @@ no_records before f n why files records first are =
         records_once before f n first.good first.earlier cut.before first.records.each cut.front in
         let key : h.1.again ≡ cut.here =
         record_once before f n first.bad h.1.again cut.here h.1.is cut.is in
-        let keys = map (λ (r : FileRecord). r.key) cut.before in
+        let keys = keys_of cut.before in
         let stood : Contains keys cut.here.key =
         subst (λ (r : FileRecord). Contains keys r.key) key
-        (subst (λ (rs : List FileRecord). Contains (map (λ (r : FileRecord). r.key) rs) h.1.again.key)
-        same h.1.stood) in
+        (subst (λ (rs : List FileRecord). Contains (keys_of rs) h.1.again.key) same h.1.stood) in
         let seen = list_any-from_Contains (eq_by_cmp_equiv key_total) cut.here.key keys stood in
-        let once : IsDistinct key_eq
-        (keys ++ cut.here.key ∷ map (λ (r : FileRecord). r.key) cut.behind) =
+        let once : IsDistinct key_eq (keys ++ cut.here.key ∷ keys_of cut.behind) =
         subst (IsDistinct key_eq)
-        (ap (map (λ (r : FileRecord). r.key)) cut.parts
+        (ap keys_of cut.parts
         ∙ map-append (λ (r : FileRecord). r.key) cut.before (cut.here ∷ cut.behind)) are.once in
-        let fresh = not_before keys cut.here.key (map (λ (r : FileRecord). r.key) cut.behind) once in
+        let fresh = not_before keys cut.here.key (keys_of cut.behind) once in
         true≢false (sym seen ∙ fresh)
 
 named_fault : (before f n bytes : List ℕ) (why : ManifestWhy) (files : List FileRecord)

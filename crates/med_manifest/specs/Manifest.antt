@@ -30,8 +30,9 @@ pub record IsRecordOf (before f n : List ℕ) (file : Named) (r : FileRecord) : 
   pub size_is : r.fingerprint.size ≡ file.size
   pub md5_is : SpellsMd5 file.md5 r.fingerprint.md5
 
--- what each of the named files is in the backup, where no file stands twice
-pub record AreRecords (before f n : List ℕ) (named : List Named) (files : List FileRecord) : Type 0 where
+-- what each of the named files is in the backup, where no key stands twice
+pub record AreRecords (before f n : List ℕ) (named : List Named) (files : List FileRecord)
+    : Type 0 where
   pub each : AllZip (IsRecordOf before f n) named files
   pub once : IsDistinct key_eq (map (λ (r : FileRecord). r.key) files)
 

@@ -43,7 +43,8 @@ pub record IsForeign (before f n : List ℕ) (file : Named) : Type 0 where
   pub foreign : (key : FileKey) → IsKeyOf before f n file key → ⊥
 
 -- the file has neither fault, and is of a key that an earlier file has
-pub record IsRepeated (before f n : List ℕ) (earlier : List FileRecord) (file : Named) : Type 0 where
+pub record IsRepeated (before f n : List ℕ) (earlier : List FileRecord) (file : Named)
+    : Type 0 where
   pub again : FileRecord
   pub is : IsRecordOf before f n file again
   pub stood : Contains (map (λ (r : FileRecord). r.key) earlier) again.key
@@ -63,7 +64,8 @@ BlamesFile before f n earlier file (Why why) = HasFault before f n earlier file 
 BlamesFile before f n earlier file Memory = Unit {0}
 
 -- the first of these files that has a fault has this one; all that stand before it have none
-pub record IsFirstFault (before f n : List ℕ) (files : List Named) (why : ManifestWhy) : Type 0 where
+pub record IsFirstFault (before f n : List ℕ) (files : List Named) (why : ManifestWhy)
+    : Type 0 where
   pub good : List Named
   pub bad : Named
   pub rest : List Named

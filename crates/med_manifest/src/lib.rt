@@ -1,8 +1,10 @@
 //! The manifest of a backup: which files it has, and its text in JSON.
 //!
 //! `Manifest::write` gives the canonical text, which the definition of a manifest relates to the
-//! same files. Read `specs/Manifest.antt` first: it says what a manifest is, by the tree of its
-//! text, whoever wrote it.
+//! same files. `Manifest::read` takes any text that the definition relates to files, and says of
+//! each other text what its first fault is. Read `specs/Named.antt` and `specs/Manifest.antt` first:
+//! they say what a manifest is, by the tree of its text, whoever wrote it; then
+//! `specs/Refusals.antt`.
 #![tactic(auto)]
 
 mod laws;
@@ -16,5 +18,11 @@ pub use laws::manifests_are_one;
 pub use manifest::{FileRecord, Manifest};
 pub use why::{ManifestError, ManifestWhy};
 
+#[cfg(test)]
+mod answers;
+#[cfg(test)]
+mod fault_tests;
+#[cfg(test)]
+mod read_tests;
 #[cfg(test)]
 mod tests;

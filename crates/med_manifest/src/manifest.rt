@@ -57,9 +57,10 @@ impl Manifest {
         let text = value.to_string(alloc)?;
         Ok(text.into_bytes())
     }
-    /// The files of which these bytes are the manifest, for the backup of that name and node, in
-    /// the order of the text. Any text with the keys of a manifest is read: keys in any order, other
-    /// keys beside them, the last of a repeated key, an MD5 in either spelling.
+    /// The files of which these bytes are the manifest, in the order of the text, for the backup of
+    /// that name and node. The text may have its keys in any order and others beside them; of a
+    /// repeated key the last counts, and an MD5 has either spelling. Any other text is refused by
+    /// its first fault, as `ManifestWhy` says.
     pub fn read(
         alloc: Global,
         layout: &Layout,

@@ -25,8 +25,8 @@ fn is_of_table_of(raw: &NamedFile<'_>, keyspace: &str, table: &str) -> bool
     keyspace == raw.keyspace && table == raw.table
 }
 
-// The name of the file, where the kind is a shared file of the node or an own file of the backup, of
-// the table of the named file.
+// The name of the file, where the kind is a shared file of the node or an own file of the backup,
+// and of the table of the named file.
 fn file_in<'a>(kind: PathKind<'a>, node: &str, name: &str, raw: &NamedFile<'_>) -> Option<&'a str>
     ensures { option_map (λ s. s.now) result
         ≡ file_told node.now name.now (named raw.now) (as_data kind.entry) }

@@ -153,3 +153,58 @@ fn names_are_escaped_as_json_asks(rt: HostRuntime) -> Result<(), Fail> {
     assert_eq!(rt; text.as_slice(), expected.as_bytes());
     Ok(())
 }
+
+// Files of the shared path, many of one table, in order of their names.
+fn many(alloc: Global, count: usize) -> Result<Vec<FileRecord>, Fail> {
+    let layout = Layout::plain(alloc);
+    let node = Fqdn::read(alloc, "n1")?;
+    let mut files = Vec::new(alloc);
+    for i in 0..count {
+        let name = format!(in alloc; "nb-{i:08}-big-Data.db")?;
+        let key = FileKey {
+            keyspace: Component::read(alloc, "ks")?,
+            table: Component::read(alloc, "t-1")?,
+            file: Component::read(alloc, name.as_str())?,
+        };
+        let path = layout.shared(alloc, &node, &key)?;
+        let fingerprint = Fingerprint::of(name.as_bytes());
+        files.push(FileRecord {
+            key,
+            path,
+            fingerprint,
+        })?;
+    }
+    Ok(files)
+}
+
+fn is_same(a: &FileRecord, b: &FileRecord) -> bool {
+    a.key == b.key && a.path.as_str() == b.path.as_str() && a.fingerprint == b.fingerprint
+}
+
+fn are_same(a: &[FileRecord], b: &[FileRecord]) -> bool {
+    a.len() == b.len() && a.iter().zip(b.iter()).all(|(x, y)| is_same(x, y))
+}
+
+// Whether that many files are written and read to the same files.
+fn is_read_back(alloc: Global, count: usize) -> Result<bool, Fail> {
+    let files = many(alloc, count)?;
+    let manifest = Manifest { files };
+    if !is_rising(manifest.files.as_slice()) {
+        return Err(Fail::new("the files are out of order"));
+    }
+    let text = manifest.write(alloc)?;
+    let layout = Layout::plain(alloc);
+    let node = Fqdn::read(alloc, "n1")?;
+    let name = BackupName::read(alloc, "b1")?;
+    let read = Manifest::read(alloc, &layout, &node, &name, text.as_slice());
+    let Ok(again) = read else {
+        return Ok(false);
+    };
+    Ok(are_same(again.files.as_slice(), manifest.files.as_slice()))
+}
+
+#[test]
+fn two_thousand_files_are_read_back(rt: HostRuntime) -> Result<(), Fail> {
+    assert!(rt; is_read_back(rt.alloc(), 2000)?);
+    Ok(())
+}

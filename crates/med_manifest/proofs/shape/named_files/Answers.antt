@@ -13,7 +13,8 @@ returns-in-Some-clause-ok c =
     let list = c.as_slice.result.now in
     let is : as_array d ≡ Some (items_view c.in-Some.list.now.items) = search rules in
     let list_is : as_array d ≡ Some (items_view list) =
-    subst (λ (vs : List Value). as_array d ≡ Some (items_view vs)) (sym c.as_slice.ensures.value) is in
+    subst (λ (vs : List Value). as_array d ≡ Some (items_view vs))
+    (sym c.as_slice.ensures.value) is in
     IfOk-weaker c.files_of.result _ _
     (λ files tables. has_files d list (map named files.items) list_is tables) c.files_of.ensures.ok
 
@@ -23,6 +24,7 @@ returns-in-Some-clause-err c =
     let list = c.as_slice.result.now in
     let is : as_array d ≡ Some (items_view c.in-Some.list.now.items) = search rules in
     let list_is : as_array d ≡ Some (items_view list) =
-    subst (λ (vs : List Value). as_array d ≡ Some (items_view vs)) (sym c.as_slice.ensures.value) is in
+    subst (λ (vs : List Value). as_array d ≡ Some (items_view vs))
+    (sym c.as_slice.ensures.value) is in
     IfErr-weaker c.files_of.result _ _ (λ e blames. unshaped d list e list_is blames)
     c.files_of.ensures.err

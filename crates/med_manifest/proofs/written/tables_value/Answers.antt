@@ -18,5 +18,6 @@ loop-rest-preserved c =
       digests = λ left. c.loop-rest.invariant.digests
           (digests_rest rest _ c.split_at.result.0.now c.split_at.result.1.now c.first-item.result
           c.run_of-count.result (omega arith) c.first-item.is (whole_tail rest)
-          c.split_at.ensures.front c.split_at.ensures.back c.in_ok-table_value.ensures.digests left);
+          c.split_at.ensures.front c.split_at.ensures.back c.in_ok-table_value.ensures.digests
+          left);
     }

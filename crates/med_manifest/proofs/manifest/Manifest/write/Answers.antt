@@ -24,7 +24,8 @@ returns-clause-utf8 c =
 pub returns-clause-reads_back : goal.returns-clause-reads_back
 returns-clause-reads_back c =
     let files = c.as_slice.result.now in
-    let back = c.in_ok-text.ensures.reads_back (rw c.in_ok-value.ensures.value (manifest_depth files)) in
+    let back = c.in_ok-text.ensures.reads_back
+    (rw c.in_ok-value.ensures.value (manifest_depth files)) in
     ap (λ (v : Vec ℕ Global). read v.items) c.into_bytes.ensures.value ∙ back
     ∙ ap Some (c.in_ok-value.ensures.value ∙ ap manifest_data c.as_slice.ensures.value)
 
