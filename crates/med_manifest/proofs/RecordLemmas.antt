@@ -17,10 +17,11 @@ use Rattle.med_manifest.specs.declared.manifest.FileRecord.{FileRecord}
 use Rattle.med_manifest.specs.declared.shape.NamedFile.{NamedFile}
 use Rattle.med_manifest.specs.declared.why.ManifestError.{ManifestError}
 use Rattle.med_manifest.specs.declared.why.ManifestError.TheVariants.{Why, Memory}
-use Rattle.med_manifest.specs.declared.why.ManifestWhy.TheVariants.{DuplicatePath}
+use Rattle.med_manifest.specs.declared.why.ManifestWhy.TheVariants.{NotJson, NotManifest, BadDigest, ForeignPath, DuplicatePath}
 use Rattle.med_manifest.specs.Manifest.{IsRecordOf, AreRecords}
 use Rattle.med_manifest.specs.Named.{Named, named}
 use Rattle.med_manifest.specs.Refusals.{BlamesFile, BlamesFiles, IsFirstFault}
+use Rattle.med_manifest.specs.Seen.{BlamesSeen}
 use Rattle.med_manifest.proofs.Zips.{zip_next, length_zip, map_around, length_front}
 
 pub none_distinct : IsDistinct key_eq []
@@ -43,14 +44,6 @@ pub item_is : {X : Type 0} (xs : List X) (i : ℕ) (d : X) → i < length xs
 item_is [] i d lt = absurd (omega arith)
 item_is (x ∷ xs) zero d lt = refl
 item_is {X} (x ∷ xs) (suc i) d lt = item_is xs i d (omega arith)
-
-pub was_seen : (is_new b : Bool) → is_new ≡ not b → is_new ≡ false → b ≡ true
-was_seen is_new true e g = refl
-was_seen is_new false e g = absurd (true≢false (sym e ∙ g))
-
-pub was_fresh : (is_new b : Bool) → is_new ≡ not b → is_new ≡ true → b ≡ false
-was_fresh is_new false e g = refl
-was_fresh is_new true e g = absurd (true≢false (sym g ∙ e))
 
 abbrev pub keys_of : List FileRecord → List FileKey
 keys_of records = map (λ (r : FileRecord). r.key) records
@@ -108,6 +101,20 @@ module _ (before f n : List ℕ) (files : List NamedFile) (i : ℕ) (raw : Named
     );
   }
 
+  -- an error over the record of the next file is one over all files
+  pub seen_fault : (seen : BTreeSet FileKey) (r : FileRecord) (e : ManifestError)
+      → ((k : FileKey) → contains key_cmp seen k ≡ list_any (key_eq k) (keys_of earlier))
+      → IsRecordOf before f n (named raw) r → BlamesSeen seen r e
+      → BlamesFiles before f n (map named files) e
+  seen_fault seen r Memory same is blames = tt
+  seen_fault seen r (Why NotJson) same is blames = absurd blames
+  seen_fault seen r (Why (NotManifest at)) same is blames = absurd blames
+  seen_fault seen r (Why (BadDigest at)) same is blames = absurd blames
+  seen_fault seen r (Why (ForeignPath path)) same is blames = absurd blames
+  seen_fault seen r (Why (DuplicatePath path)) same is blames =
+      subst (λ (p : List ℕ). IsFirstFault before f n (map named files) (DuplicatePath p))
+      (sym blames.0) (repeated r is (sym (same r.key) ∙ blames.1))
+
   -- the next file is one that was not
   pub records_next : (r : FileRecord) (all : List FileRecord) → IsRecordOf before f n (named raw) r
       → list_any (key_eq r.key) (keys_of earlier) ≡ false → all ≡ earlier ++ r ∷ []
@@ -129,20 +136,19 @@ or_last false true = refl
 or_last false false = refl
 
 -- the keys seen are those of the records
-pub seen_next : (old new : BTreeSet FileKey) (key : FileKey) (r : FileRecord)
-    (earlier all : List FileRecord) → key ≡ r.key → Updates key_cmp old new key true
+pub seen_next : (old new : BTreeSet FileKey) (r : FileRecord) (earlier all : List FileRecord)
+    → Updates key_cmp old new r.key true
     → ((k : FileKey) → contains key_cmp old k ≡ list_any (key_eq k) (keys_of earlier))
     → all ≡ earlier ++ r ∷ []
     → (k : FileKey) → contains key_cmp new k ≡ list_any (key_eq k) (keys_of all)
-seen_next old new key r earlier all same update seen all_are k =
-    let flip : key_eq key k ≡ key_eq k key = (eq_by_cmp_equiv key_total).symm key k in
+seen_next old new r earlier all update seen all_are k =
+    let flip : key_eq r.key k ≡ key_eq k r.key = (eq_by_cmp_equiv key_total).symm r.key k in
     let keys : keys_of all ≡ keys_of earlier ++ r.key ∷ [] =
     ap keys_of all_are ∙ map-append (λ (q : FileRecord). q.key) earlier (r ∷ []) in
     let with_last : list_any (key_eq k) (keys_of all)
     ≡ (list_any (key_eq k) (keys_of earlier) || (key_eq k r.key || false)) =
     ap (list_any (key_eq k)) keys ∙ list_any-append (key_eq k) (keys_of earlier) (r.key ∷ []) in
     update.0 k ∙ ap (λ (b : Bool). cond b true (contains key_cmp old k)) flip
-    ∙ or_last (contains key_cmp old k) (key_eq k key)
-    ∙ ap (λ (b : Bool). b || (key_eq k key || false)) (seen k)
-    ∙ ap (λ (j : FileKey). list_any (key_eq k) (keys_of earlier) || (key_eq k j || false)) same
+    ∙ or_last (contains key_cmp old k) (key_eq k r.key)
+    ∙ ap (λ (b : Bool). b || (key_eq k r.key || false)) (seen k)
     ∙ sym with_last

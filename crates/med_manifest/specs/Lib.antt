@@ -2,6 +2,7 @@ pub mod Manifest
 pub mod Named
 pub mod Places
 pub mod Refusals
+pub mod Seen
 pub mod Tree
 pub mod Whole
 pub mod Written

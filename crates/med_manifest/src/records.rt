@@ -1,6 +1,8 @@
 // What the files that a text names are in a backup.
-ghost use Rattle.std.specs.Prelude.{◌≡◌, [], IfOk, IfErr, IfSome, List, ℕ, map, length, None, option_map};
+ghost use Rattle.std.specs.Prelude.{◌≡◌, ◌++◌, ◌∷◌, [], false, true, IfOk, OnOk, IfErr, IfSome, List, ℕ, map, length, None, option_map};
 ghost use Rattle.med_base.specs.declared.key.FileKey.{FileKey};
+ghost use Rattle.std.specs.BTreeSet.{contains, Updates};
+ghost use Rattle.med_base.specs.Key.{key_cmp};
 ghost use Rattle.med_base.specs.Kinds.{as_data};
 ghost use Rattle.med_base.specs.Names.{component_fault};
 ghost use Rattle.med_manifest.specs.declared.manifest.FileRecord.{FileRecord};
@@ -8,6 +10,7 @@ ghost use Rattle.med_manifest.specs.Manifest.{IsKeyOf, IsRecordOf, AreRecords};
 ghost use Rattle.med_manifest.specs.Named.{named};
 ghost use Rattle.med_manifest.specs.Places.{file_told, key_told, is_of_table};
 ghost use Rattle.med_manifest.specs.Refusals.{BlamesFile, BlamesFiles};
+ghost use Rattle.med_manifest.specs.Seen.{BlamesSeen};
 
 use crate::shape::NamedFile;
 use crate::{FileRecord, ManifestError, ManifestWhy};
@@ -131,6 +134,26 @@ fn record_of(
     })
 }
 
+// One more record, if its key is not among those seen.
+fn add(
+    alloc: Global,
+    seen: &mut BTreeSet<FileKey>,
+    records: &mut Vec<FileRecord>,
+    file: FileRecord,
+) -> Result<(), ManifestError>
+    ensures fresh { OnOk result (contains key_cmp seen.old file.key ≡ false) }
+    ensures seen { OnOk result (Updates key_cmp seen.old seen.new file.key true) }
+    ensures records { OnOk result (records.new.items ≡ records.old.items ++ file ∷ []) }
+    ensures err { IfErr result (BlamesSeen seen.old file) }
+{
+    if !seen.insert(file.key.copy(alloc)?)? {
+        let path = file.path;
+        return Err(ManifestError::Why(ManifestWhy::DuplicatePath { path }));
+    }
+    records.push(file)?;
+    Ok(())
+}
+
 /// What the named files are in the backup.
 pub(crate) fn records_of(
     alloc: Global,
@@ -148,11 +171,7 @@ pub(crate) fn records_of(
     let mut records = Vec::new(alloc);
     for (at, raw) in files.iter().enumerate() {
         let record = record_of(alloc, layout, node, name, raw, at)?;
-        if !seen.insert(record.key.copy(alloc)?)? {
-            let path = record.path;
-            return Err(ManifestError::Why(ManifestWhy::DuplicatePath { path }));
-        }
-        records.push(record)?;
+        add(alloc, &mut seen, &mut records, record)?;
     }
     Ok(records)
 }

@@ -6,7 +6,7 @@ use Rattle.med_base.specs.Key.{key_cmp, key_eq}
 use Rattle.med_manifest.specs.declared.shape.NamedFile.{NamedFile}
 use Rattle.med_manifest.specs.Named.{Named, named}
 use Rattle.med_manifest.specs.Refusals.{BlamesFiles}
-use Rattle.med_manifest.proofs.RecordLemmas.{none_distinct, nothing, item_is, was_seen, was_fresh, keys_of, first_fault, repeated, records_next, seen_next}
+use Rattle.med_manifest.proofs.RecordLemmas.{none_distinct, nothing, item_is, keys_of, first_fault, seen_fault, records_next, seen_next}
 use Rattle.med_manifest.proofs.records.records_of.Goals as goal
 
 pub loop-at-init : goal.loop-at-init
@@ -26,38 +26,33 @@ returns-in_err-record-clause-err c =
     c.loop-at.invariant.are c.in_err-record.field-0.0 c.in_err-record.ensures.err in
     search rules
 
-pub returns-then-not-branch-clause-err : goal.returns-then-not-branch-clause-err
-returns-then-not-branch-clause-err c =
+pub returns-in_err-add-clause-err : goal.returns-in_err-add-clause-err
+returns-in_err-add-clause-err c =
     let files : List NamedFile = c.args.files.now in
     let i = c.loop-at.at in
-    let key = c.in_ok-record.record.key in
-    let has : contains key_cmp c.loop-at.seen c.in_ok-copy.field-0 ≡ true =
-    was_seen c.in_ok-insert.field-0 _ c.in_ok-insert.ensures.added c.if-not-branch.true in
-    let seen : list_any (key_eq key) (keys_of c.loop-at.records.items) ≡ true =
-    sym (c.loop-at.invariant.seen key)
-    ∙ ap (contains key_cmp c.loop-at.seen) (sym c.in_ok-copy.ensures) ∙ has in
-    repeated c.args.layout.now c.args.node.now c.args.name.now files i (get_or files i nothing)
+    let blames : BlamesFiles c.args.layout.now c.args.node.now c.args.name.now
+    (map named c.args.files.now) c.in_err-add.field-0.0 =
+    seen_fault c.args.layout.now c.args.node.now c.args.name.now files i (get_or files i nothing)
     c.loop-at.records.items (omega arith) (item_is files i nothing (omega arith))
-    c.loop-at.invariant.are c.in_ok-record.record c.in_ok-record.ensures.ok seen
+    c.loop-at.invariant.are c.loop-at.seen c.in_ok-record.record c.in_err-add.field-0.0
+    c.loop-at.invariant.seen c.in_ok-record.ensures.ok c.in_err-add.ensures.err in
+    search rules
 
 pub loop-at-preserved : goal.loop-at-preserved
 loop-at-preserved c =
     let files : List NamedFile = c.args.files.now in
     let i = c.loop-at.at in
     let key = c.in_ok-record.record.key in
-    let lacks : contains key_cmp c.loop-at.seen c.in_ok-copy.field-0 ≡ false =
-    was_fresh c.in_ok-insert.field-0 _ c.in_ok-insert.ensures.added c.if-not-branch.false in
     let fresh : list_any (key_eq key) (keys_of c.loop-at.records.items) ≡ false =
-    sym (c.loop-at.invariant.seen key)
-    ∙ ap (contains key_cmp c.loop-at.seen) (sym c.in_ok-copy.ensures) ∙ lacks in
+    sym (c.loop-at.invariant.seen key) ∙ c.in_ok-add.ensures.fresh in
     record {
       are =
           records_next c.args.layout.now c.args.node.now c.args.name.now files i
           (get_or files i nothing) c.loop-at.records.items (omega arith)
           (item_is files i nothing (omega arith)) c.loop-at.invariant.are c.in_ok-record.record
-          c.push.new.self.items c.in_ok-record.ensures.ok fresh c.in_ok-push.ensures.items;
+          c.add.new.records.items c.in_ok-record.ensures.ok fresh c.in_ok-add.ensures.records;
       seen =
-          seen_next c.loop-at.seen c.insert.new.self c.in_ok-copy.field-0 c.in_ok-record.record
-          c.loop-at.records.items c.push.new.self.items c.in_ok-copy.ensures
-          c.in_ok-insert.ensures.updates c.loop-at.invariant.seen c.in_ok-push.ensures.items;
+          seen_next c.loop-at.seen c.add.new.seen c.in_ok-record.record c.loop-at.records.items
+          c.add.new.records.items c.in_ok-add.ensures.seen c.loop-at.invariant.seen
+          c.in_ok-add.ensures.records;
     }
