@@ -13,8 +13,8 @@ use Rattle.med_base.specs.declared.key.FileKey.{FileKey}
 use Rattle.med_base.specs.Digest.{SpellsMd5}
 use Rattle.med_base.specs.Key.{key_cmp, key_eq, AreRising, IsKey}
 use Rattle.med_manifest.specs.declared.manifest.FileRecord.{FileRecord}
-use Rattle.med_manifest.specs.Manifest.{IsPathOf, IsRecordOf, AreRecords, IsManifest}
-use Rattle.med_manifest.specs.Named.{Named, IsFile, IsTable, IsText, NamesFiles}
+use Rattle.med_manifest.specs.Manifest.{IsPathOf, IsRecordOf, IsManifest}
+use Rattle.med_manifest.specs.Named.{Named, IsFile, IsTable, NamesFiles}
 use Rattle.med_manifest.specs.Tree.{items_in}
 use Rattle.med_manifest.specs.Written.{HaveDigests, Table, tables, with_file, is_same_table, file_data, table_data, manifest_data}
 use Rattle.med_manifest.proofs.Tables.{same_names}

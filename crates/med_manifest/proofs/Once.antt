@@ -1,15 +1,12 @@
 -- One text is the manifest of one list of files at most.
-use Rattle.std.proofs.Common.{◌≡◌, ◌∙◌, ℕ, List, [], ◌∷◌, ◌++◌, Option, Some, None, map, flat_map, codes, inl, inr, refl, sym, ap, subst, append_assoc}
+use Rattle.std.proofs.Common.{◌≡◌, ◌∙◌, ℕ, List, [], ◌∷◌, ◌++◌, Option, Some, flat_map, codes, inl, inr, refl, sym, ap, subst, append_assoc}
 use Rattle.std.specs.List.{AllZip}
 use Rattle.serde_json.specs.Data.{Data, Items}
 use Rattle.serde_json.specs.Find.{as_array}
 use Rattle.med_base.specs.declared.key.FileKey.{FileKey}
-use Rattle.med_base.specs.declared.fingerprint.Fingerprint.{Fingerprint}
-use Rattle.med_base.specs.Key.{IsKey}
-use Rattle.med_base.specs.Layout.{shared_path, own_path}
 use Rattle.med_base.proofs.Paths.{HasNoSlash, component_no_slash}
 use Rattle.med_manifest.specs.declared.manifest.FileRecord.{FileRecord}
-use Rattle.med_manifest.specs.Manifest.{IsPathOf, IsKeyOf, IsRecordOf, AreRecords, IsManifest, ManifestsAreOne}
+use Rattle.med_manifest.specs.Manifest.{IsPathOf, IsKeyOf, IsRecordOf, ManifestsAreOne}
 use Rattle.med_manifest.specs.Named.{Named, IsFile, IsTable, AreTables, IsText, HasFiles, NamesFiles}
 use Rattle.med_manifest.specs.Tree.{items_in, text_at, number_at, list_at}
 use Rattle.med_manifest.proofs.Digests.{digest_once}

@@ -1,5 +1,5 @@
 -- The key of a named file is told by the kind of its path.
-use Rattle.std.proofs.Common.{◌≡◌, ◌∙◌, ◌&&◌, ℕ, Bool, true, false, List, Option, Some, None, IfSome, inl, inr, refl, sym, ap, subst, option_map}
+use Rattle.std.proofs.Common.{◌≡◌, ◌∙◌, ◌&&◌, ℕ, Bool, true, false, List, Some, None, inl, inr, refl, sym, ap, subst}
 use Rattle.std.specs.Prelude.{if◌then◌else◌}
 use Rattle.std.specs.Str.{bytes_eq}
 use Rattle.std.proofs.lemmas.Slice.Eq.{slice_eq-Decides}
@@ -8,7 +8,7 @@ use Rattle.med_base.specs.declared.key.FileKey.{FileKey}
 use Rattle.med_base.specs.Classify.{kind_of}
 use Rattle.med_base.specs.Key.{IsKey}
 use Rattle.med_base.specs.KindOf.{IsOfKind}
-use Rattle.med_base.specs.Kinds.{Kind, Shared, Own, Meta, Entry, Latest, Stray, Other, IsFqdn, IsBackupName, IsBuilt, IsValid}
+use Rattle.med_base.specs.Kinds.{Kind, Shared, Own, Meta, Entry, Latest, Stray, Other, IsFqdn, IsBackupName, IsBuilt}
 use Rattle.med_base.specs.Layout.{shared_path, own_path}
 use Rattle.med_base.proofs.KindsMade.{built_is_told}
 use Rattle.med_manifest.specs.Manifest.{IsPathOf, IsKeyOf}

@@ -1,8 +1,8 @@
 -- A loop that reads named files into records, and stops at the first fault.
-use Rattle.std.proofs.Common.{◌≡◌, ◌∙◌, ◌<◌, ◌+◌, ◌||◌, ℕ, zero, suc, Bool, true, false, true≢false, not, cond, refl, sym, ap, subst, List, [], ◌∷◌, ◌++◌, map, length, take, drop, get_or, arith}
+use Rattle.std.proofs.Common.{◌≡◌, ◌∙◌, ◌<◌, ◌+◌, ◌||◌, ℕ, zero, suc, Bool, true, false, cond, refl, sym, ap, subst, List, [], ◌∷◌, ◌++◌, map, length, take, drop, get_or, arith}
 use Rattle.std.specs.BTreeSet.{BTreeSet, contains, Updates}
 use Rattle.std.specs.Cmp.{eq_by_cmp_equiv}
-use Rattle.std.specs.List.{AllZip, IsDistinct, list_any, Contains}
+use Rattle.std.specs.List.{IsDistinct, list_any}
 use Rattle.std.proofs.lemmas.List.{map-append}
 use Rattle.std.proofs.lemmas.List.Folds.{list_any-append}
 use Rattle.std.proofs.lemmas.Map.Keys.{IsDistinct-push}
@@ -19,7 +19,7 @@ use Rattle.med_manifest.specs.declared.why.ManifestError.{ManifestError}
 use Rattle.med_manifest.specs.declared.why.ManifestError.TheVariants.{Why, Memory}
 use Rattle.med_manifest.specs.declared.why.ManifestWhy.TheVariants.{NotJson, NotManifest, BadDigest, ForeignPath, DuplicatePath}
 use Rattle.med_manifest.specs.Manifest.{IsRecordOf, AreRecords}
-use Rattle.med_manifest.specs.Named.{Named, named}
+use Rattle.med_manifest.specs.Named.{named}
 use Rattle.med_manifest.specs.Refusals.{BlamesFile, BlamesFiles, IsFirstFault}
 use Rattle.med_manifest.specs.Seen.{BlamesSeen}
 use Rattle.med_manifest.proofs.Zips.{zip_next, length_zip, map_around, length_front}

@@ -1,11 +1,10 @@
 -- Bytes that are refused are the manifest of the backup with no files whatever.
-use Rattle.std.proofs.Common.{◌≡◌, ◌∙◌, ◌<◌, ◌||◌, ℕ, Bool, true, false, true≢false, Some, None, refl, sym, ap, subst, List, [], ◌∷◌, ◌++◌, map}
+use Rattle.std.proofs.Common.{◌≡◌, ◌∙◌, ℕ, false, true≢false, Some, None, refl, sym, ap, subst, List, [], ◌∷◌, ◌++◌}
 use Rattle.std.specs.Cmp.{eq_by_cmp_equiv}
 use Rattle.std.specs.List.{AllZip, AllByRecursion, IsDistinct, list_any, Contains}
 use Rattle.std.proofs.lemmas.List.{map-append}
 use Rattle.std.proofs.lemmas.Map.Views.{list_any-from_Contains}
 use Rattle.serde_json.specs.Data.{Data, Items}
-use Rattle.serde_json.specs.Find.{as_array}
 use Rattle.med_base.specs.declared.key.FileKey.{FileKey}
 use Rattle.med_base.specs.Key.{key_eq}
 use Rattle.med_base.specs.KeyOrder.{key_total}
@@ -15,8 +14,8 @@ use Rattle.med_manifest.specs.declared.why.ManifestError.TheVariants.{Why, Memor
 use Rattle.med_manifest.specs.declared.why.ManifestWhy.{ManifestWhy}
 use Rattle.med_manifest.specs.declared.why.ManifestWhy.TheVariants.{NotJson, NotManifest, BadDigest, ForeignPath, DuplicatePath}
 use Rattle.med_manifest.specs.Manifest.{IsRecordOf, AreRecords, IsManifest}
-use Rattle.med_manifest.specs.Named.{Named, IsTable, AreTables, IsFirstUnshaped, HasFiles, NamesFiles}
-use Rattle.med_manifest.specs.Refusals.{IsUnshapedAt, no_list, no_table, HasFault, IsFirstFault, NamesFault, IsRefused, BlamesFiles, BlamesManifest, RefusesManifest}
+use Rattle.med_manifest.specs.Named.{Named, IsTable, AreTables, HasFiles, NamesFiles}
+use Rattle.med_manifest.specs.Refusals.{IsUnshapedAt, no_list, no_table, HasFault, IsFirstFault, NamesFault, BlamesFiles, BlamesManifest, RefusesManifest}
 use Rattle.med_manifest.specs.Tree.{items_in}
 use Rattle.med_manifest.proofs.Once.{tree_once, named_once, record_once, records_once}
 use Rattle.med_manifest.proofs.RecordLemmas.{keys_of}

@@ -1,7 +1,7 @@
 -- The files of tables, table after table.
-use Rattle.std.proofs.Common.{◌≡◌, ◌∙◌, ◌<◌, ◌+◌, ℕ, suc, Bool, true, false, not, true≢false, Option, Some, None, Result, Ok, Err, IfOk, IfSome, refl, sym, ap, subst, List, [], ◌∷◌, ◌++◌, map, flat_map, length, take, drop, get_or, append_assoc, codes, arith}
+use Rattle.std.proofs.Common.{◌≡◌, ◌∙◌, ◌<◌, ◌+◌, ℕ, suc, Bool, true, true≢false, Option, Some, None, Result, Ok, Err, IfOk, IfSome, refl, sym, ap, subst, List, [], ◌∷◌, ◌++◌, map, flat_map, length, take, drop, get_or, append_assoc, codes, arith}
 use Rattle.std.specs.Prelude.{is_none}
-use Rattle.std.specs.List.{AllZip, AllByRecursion}
+use Rattle.std.specs.List.{AllZip}
 use Rattle.std.proofs.lemmas.List.{append-nil}
 use Rattle.serde_json.specs.Data.{Data}
 use Rattle.serde_json.specs.Find.{as_array}
@@ -11,8 +11,8 @@ use Rattle.med_base.specs.Names.{component_fault}
 use Rattle.med_manifest.specs.declared.why.ManifestError.{ManifestError}
 use Rattle.med_manifest.specs.declared.why.ManifestError.TheVariants.{Why, Memory}
 use Rattle.med_manifest.specs.declared.why.ManifestWhy.TheVariants.{NotJson, NotManifest, BadDigest, ForeignPath, DuplicatePath}
-use Rattle.med_manifest.specs.Named.{Named, IsFile, IsTable, IsShaped, AreTables, IsFirstUnshaped, IsText, HasFiles}
-use Rattle.med_manifest.specs.Refusals.{BlamesTables, BlamesManifest, IsUnshapedAt, no_table}
+use Rattle.med_manifest.specs.Named.{Named, IsFile, IsTable, AreTables, IsFirstUnshaped, IsText, HasFiles}
+use Rattle.med_manifest.specs.Refusals.{BlamesTables, BlamesManifest, no_table}
 use Rattle.med_manifest.specs.Tree.{items_in, text_at, list_at}
 use Rattle.med_manifest.proofs.Zips.{zip_next, each_has, map_around, length_front}
 

@@ -1,5 +1,5 @@
 -- The keys of the files that were read so far, as the reader keeps them.
-use Rattle.std.specs.Prelude.{◌≡◌, Bool, true}
+use Rattle.std.specs.Prelude.{◌≡◌, true}
 use Rattle.std.specs.BTreeSet.{BTreeSet, contains}
 use Rattle.med_base.specs.declared.key.FileKey.{FileKey}
 use Rattle.med_base.specs.Key.{key_cmp}

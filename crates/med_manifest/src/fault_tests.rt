@@ -1,4 +1,4 @@
-// The bounds of names and of nesting, the first fault of several tables, and a layout with a prefix.
+// The bounds of names and of nesting, the first fault of several tables, and a prefix.
 use crate::Manifest;
 use crate::answers::{Answer, MD5, OWN, PATH, SHARED, fields, file, is_read, repeated};
 use med_base::{BackupName, Fqdn, Layout};

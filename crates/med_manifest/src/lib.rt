@@ -2,8 +2,8 @@
 //!
 //! `Manifest::write` gives the canonical text, which the definition of a manifest relates to the
 //! same files. `Manifest::read` takes any text that the definition relates to files, and says of
-//! each other text what its first fault is. Read `specs/Named.antt` and `specs/Manifest.antt` first:
-//! they say what a manifest is, by the tree of its text, whoever wrote it; then
+//! each other text what its first fault is. Read `specs/Named.antt` and `specs/Manifest.antt`
+//! first: they say what a manifest is, by the tree of its text, whoever wrote it; then
 //! `specs/Refusals.antt`.
 #![tactic(auto)]
 

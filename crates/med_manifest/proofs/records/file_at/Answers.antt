@@ -1,5 +1,4 @@
 use Rattle.std.proofs.Common.{◌≡◌, ◌∙◌, ap, sym, subst, ℕ, List, Option, Some, None, IfSome, option_map, Bor}
-use Rattle.med_base.specs.declared.key.FileKey.{FileKey}
 use Rattle.med_base.specs.Classify.{kind_of}
 use Rattle.med_base.specs.KindOf.{IsOfKind}
 use Rattle.med_base.specs.Kinds.{Kind, as_data}

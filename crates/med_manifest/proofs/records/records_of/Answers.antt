@@ -1,10 +1,8 @@
-use Rattle.std.proofs.Common.{rules, ◌≡◌, ◌∙◌, Bool, true, false, List, map, ap, sym, take, get_or, refl, arith}
-use Rattle.std.specs.BTreeSet.{contains}
+use Rattle.std.proofs.Common.{rules, ◌≡◌, ◌∙◌, false, List, map, sym, get_or, refl, arith}
 use Rattle.std.specs.List.{list_any}
-use Rattle.med_base.specs.declared.key.FileKey.{FileKey}
-use Rattle.med_base.specs.Key.{key_cmp, key_eq}
+use Rattle.med_base.specs.Key.{key_eq}
 use Rattle.med_manifest.specs.declared.shape.NamedFile.{NamedFile}
-use Rattle.med_manifest.specs.Named.{Named, named}
+use Rattle.med_manifest.specs.Named.{named}
 use Rattle.med_manifest.specs.Refusals.{BlamesFiles}
 use Rattle.med_manifest.proofs.RecordLemmas.{none_distinct, nothing, item_is, keys_of, first_fault, seen_fault, records_next, seen_next}
 use Rattle.med_manifest.proofs.records.records_of.Goals as goal

@@ -1,6 +1,6 @@
-use Rattle.std.proofs.Common.{◌≡◌, ◌∙◌, ◌++◌, List, map, ap, take, arith}
+use Rattle.std.proofs.Common.{◌∙◌, map, ap, arith}
 use Rattle.std.proofs.lemmas.List.{map-append}
-use Rattle.med_manifest.specs.Named.{Named, named, IsTable}
+use Rattle.med_manifest.specs.Named.{named}
 use Rattle.med_manifest.proofs.TreeLemmas.{tables_next, first_unshaped}
 use Rattle.med_manifest.proofs.shape.files_of.Goals as goal
 

@@ -1,9 +1,9 @@
-use Rattle.std.proofs.Common.{rules, ◌≡◌, ◌∙◌, List, Some, map, sym, subst}
+use Rattle.std.proofs.Common.{rules, ◌≡◌, List, Some, map, sym, subst}
 use Rattle.std.proofs.lemmas.Result.{IfOk-weaker, IfErr-weaker}
 use Rattle.serde_json.specs.Find.{as_array}
 use Rattle.serde_json.specs.View.{view, items_view}
 use Rattle.serde_json.specs.declared.value.Value.{Value}
-use Rattle.med_manifest.specs.Named.{Named, named}
+use Rattle.med_manifest.specs.Named.{named}
 use Rattle.med_manifest.proofs.TreeLemmas.{has_files, unshaped}
 use Rattle.med_manifest.proofs.shape.named_files.Goals as goal
 

@@ -1,9 +1,8 @@
-use Rattle.std.proofs.Common.{rules, ◌≡◌, ◌∙◌, List, Some, codes, map, ap, sym, subst}
-use Rattle.std.specs.List.{AllZip}
+use Rattle.std.proofs.Common.{rules, ◌≡◌, List, Some, codes, map, sym, subst}
 use Rattle.std.proofs.lemmas.Result.{IfOk-weaker}
 use Rattle.serde_json.specs.View.{view, items_view}
 use Rattle.serde_json.specs.declared.value.Value.{Value}
-use Rattle.med_manifest.specs.Named.{Named, named, IsFile, IsTable}
+use Rattle.med_manifest.specs.Named.{named}
 use Rattle.med_manifest.specs.Tree.{text_at, list_at}
 use Rattle.med_manifest.proofs.TreeLemmas.{component_from, table_is, in_list, some_weaker}
 use Rattle.med_manifest.proofs.shape.table_in.Goals as goal

@@ -1,8 +1,7 @@
-use Rattle.std.proofs.Common.{rules, ◌≡◌, ◌∙◌, ℕ, List, map, ap, sym, subst}
+use Rattle.std.proofs.Common.{rules, List, map, subst}
 use Rattle.serde_json.specs.View.{view}
 use Rattle.med_manifest.specs.declared.shape.NamedFile.{NamedFile}
-use Rattle.med_manifest.specs.Manifest.{AreRecords}
-use Rattle.med_manifest.specs.Named.{Named, named, NamesFiles}
+use Rattle.med_manifest.specs.Named.{named, NamesFiles}
 use Rattle.med_manifest.specs.Refusals.{BlamesFiles, BlamesManifest, RefusesManifest}
 use Rattle.med_manifest.proofs.Refused.{refused, named_blamed}
 use Rattle.med_manifest.proofs.manifest.Manifest.read.Goals as goal
