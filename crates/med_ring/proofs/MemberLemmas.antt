@@ -1,0 +1,137 @@
+-- The members of an object, one after another.
+use Rattle.std.proofs.Common.{◌≡◌, ◌∙◌, inr, ℕ, List, [], ◌∷◌, ◌++◌, map, Some, String, Global, string_bytes, refl, ap}
+use Rattle.std.proofs.lemmas.List.{map-append}
+use Rattle.std.specs.List.{AllZip}
+use Rattle.std.specs.Str.{IsUtf8}
+use Rattle.serde_json.specs.Data.{Data, Members}
+use Rattle.serde_json.specs.Find.{as_object}
+use Rattle.serde_json.specs.Read.{read}
+use Rattle.serde_json.specs.View.{view, members_view}
+use Rattle.serde_json.specs.declared.value.Value.{Value}
+use Rattle.med_ring.specs.declared.error.RingWhy.TheVariants.{NotJson, NotRing, TokenRange, TokenTwice}
+use Rattle.med_ring.specs.declared.error.RingError.{RingError}
+use Rattle.med_ring.specs.declared.error.RingError.TheVariants.{Why, Memory}
+use Rattle.med_ring.specs.declared.ring.Host.{Host}
+use Rattle.med_ring.specs.Blames.{IsShaped, IsMisshapen, IsOutOfRange, IsFirstAtFault, IsFaultOf, BlamesRing}
+use Rattle.med_ring.specs.Host.{RingHost, host_view, tokens_in}
+use Rattle.med_ring.specs.Members.{IsNotRingOf, IsRangeOf, BlamesHost, BlamesMembers}
+use Rattle.med_ring.specs.Ring.{IsHost}
+use Rattle.med_ring.specs.Tree.{members_in}
+use Rattle.med_ring.specs.Twice.{BlamesTokens}
+use Rattle.med_ring.proofs.Zips.{zip_push}
+
+abbrev Entry : Type 0
+Entry = String Global × Value
+
+-- an entry as a member
+abbrev as_member : Entry → List ℕ × Data
+as_member e = (string_bytes e.0, view e.1)
+
+members_cut : (done : List Entry) (e : Entry) (more : List Entry)
+    → members_in (members_view (done ++ e ∷ more))
+    ≡ members_in (members_view done) ++ as_member e ∷ members_in (members_view more)
+members_cut [] e more = refl
+members_cut (d ∷ done) e more =
+    ap (λ (ms : List (List ℕ × Data)). as_member d ∷ ms) (members_cut done e more)
+
+-- one more entry that is a host
+pub one_more : (done : List Entry) (e : Entry) (hosts : List Host) (h : Host) (now : List Host)
+    → AllZip IsHost (members_in (members_view done)) (map host_view hosts)
+    → IsHost (string_bytes e.0, view e.1) (host_view h) → now ≡ hosts ++ h ∷ []
+    → AllZip IsHost (members_in (members_view (done ++ e ∷ []))) (map host_view now)
+one_more done e hosts h now zip is more =
+    rw (members_cut done e [], more, map-append host_view hosts (h ∷ []))
+    (zip_push IsHost (members_in (members_view done)) (map host_view hosts) (as_member e)
+    (host_view h) zip is)
+
+-- the first entry that is no host
+pub first_fault : (all done : List Entry) (e : Entry) (more : List Entry) (hosts : List RingHost)
+    (err : RingError) → all ≡ done ++ e ∷ more
+    → AllZip IsHost (members_in (members_view done)) hosts
+    → BlamesHost (string_bytes e.0, view e.1) err
+    → BlamesMembers (members_in (members_view all)) err
+first_fault all done e more hosts (Why (NotRing host)) cut zip blames = record {
+  before = members_in (members_view done);
+  bad = as_member e;
+  rest = members_in (members_view more);
+  cut = ap (λ (es : List Entry). members_in (members_view es)) cut ∙ members_cut done e more;
+  hosts = hosts;
+  hosts_before = zip;
+  name_is = blames.0;
+  at_fault = blames.1;
+}
+first_fault all done e more hosts (Why (TokenRange host)) cut zip blames = record {
+  before = members_in (members_view done);
+  bad = as_member e;
+  rest = members_in (members_view more);
+  cut = ap (λ (es : List Entry). members_in (members_view es)) cut ∙ members_cut done e more;
+  hosts = hosts;
+  hosts_before = zip;
+  name_is = blames.0;
+  at_fault = blames.1;
+}
+first_fault all done e more hosts (Why NotJson) cut zip blames = blames
+first_fault all done e more hosts (Why (TokenTwice token)) cut zip blames = blames
+first_fault all done e more hosts Memory cut zip blames = tt
+
+-- the name of a misshapen host is told rightly
+pub misshapen : (m : List ℕ × Data) (err : RingError) → IsNotRingOf m.0 err → (IsShaped m → ⊥)
+    → BlamesHost m err
+misshapen m (Why (NotRing host)) names bad = (names, bad)
+misshapen m (Why (TokenRange host)) names bad = absurd names
+misshapen m (Why NotJson) names bad = absurd names
+misshapen m (Why (TokenTwice token)) names bad = absurd names
+misshapen m Memory names bad = tt
+
+-- and that of one with a token out of range
+pub out_of_range : (m : List ℕ × Data) (err : RingError) → IsRangeOf m.0 err → IsOutOfRange m
+    → BlamesHost m err
+out_of_range m (Why (TokenRange host)) names bad = (names, bad)
+out_of_range m (Why (NotRing host)) names bad = absurd names
+out_of_range m (Why NotJson) names bad = absurd names
+out_of_range m (Why (TokenTwice token)) names bad = absurd names
+out_of_range m Memory names bad = tt
+
+fault_of : (fault : List ℕ × Data → Type 0) (bytes name : List ℕ) (tree : Data) (ms : Members)
+    → IsUtf8 bytes → read bytes ≡ Some tree → as_object tree ≡ Some ms
+    → IsFirstAtFault fault (members_in ms) name → IsFaultOf fault bytes name
+fault_of fault bytes name tree ms utf8 reads is f = record {
+  utf8 = utf8;
+  tree = tree;
+  reads = reads;
+  members = ms;
+  members_are = is;
+  first = f;
+}
+
+-- an error over the members is one over the bytes
+pub blames_hosts : (bytes : List ℕ) (tree : Data) (ms : Members) (err : RingError)
+    → IsUtf8 bytes → read bytes ≡ Some tree → as_object tree ≡ Some ms
+    → BlamesMembers (members_in ms) err → BlamesRing bytes err
+blames_hosts bytes tree ms (Why (NotRing host)) utf8 reads is f =
+    inr (fault_of IsMisshapen bytes (string_bytes host) tree ms utf8 reads is f)
+blames_hosts bytes tree ms (Why (TokenRange host)) utf8 reads is f =
+    fault_of IsOutOfRange bytes (string_bytes host) tree ms utf8 reads is f
+blames_hosts bytes tree ms (Why NotJson) utf8 reads is f = absurd f
+blames_hosts bytes tree ms (Why (TokenTwice token)) utf8 reads is f = absurd f
+blames_hosts bytes tree ms Memory utf8 reads is f = tt
+
+-- and so is one over the tokens of all hosts
+pub blames_tokens : (bytes : List ℕ) (tree : Data) (ms : Members) (hosts : List RingHost)
+    (err : RingError) → IsUtf8 bytes → read bytes ≡ Some tree → as_object tree ≡ Some ms
+    → AllZip IsHost (members_in ms) hosts → BlamesTokens (tokens_in hosts) err
+    → BlamesRing bytes err
+blames_tokens bytes tree ms hosts (Why (TokenTwice token)) utf8 reads is zip f = record {
+  utf8 = utf8;
+  tree = tree;
+  reads = reads;
+  members = ms;
+  members_are = is;
+  hosts = hosts;
+  hosts_are = zip;
+  twice = f;
+}
+blames_tokens bytes tree ms hosts (Why NotJson) utf8 reads is zip f = absurd f
+blames_tokens bytes tree ms hosts (Why (NotRing host)) utf8 reads is zip f = absurd f
+blames_tokens bytes tree ms hosts (Why (TokenRange host)) utf8 reads is zip f = absurd f
+blames_tokens bytes tree ms hosts Memory utf8 reads is zip f = tt

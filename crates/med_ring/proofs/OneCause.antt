@@ -1,0 +1,194 @@
+-- Bytes are refused for one cause at most.
+use Rattle.std.proofs.Common.{◌≡◌, ◌∙◌, ◌⊎◌, inl, inr, ℕ, ℤ, List, [], ◌∷◌, ◌++◌, Some, None, sym, ap, subst, string_bytes}
+use Rattle.std.specs.List.{AllZip}
+use Rattle.std.specs.Str.{IsUtf8}
+use Rattle.serde_json.specs.Data.{Data, Members}
+use Rattle.serde_json.specs.Find.{as_object}
+use Rattle.serde_json.specs.Read.{read}
+use Rattle.med_ring.specs.declared.error.RingWhy.TheVariants.{NotJson, NotRing, TokenRange, TokenTwice}
+use Rattle.med_ring.specs.Blames.{IsMisshapen, IsOutOfRange, IsFaultOf, IsNoObject, HasTwice, CauseIsOne}
+use Rattle.med_ring.specs.Host.{RingHost, tokens_in}
+use Rattle.med_ring.specs.Ring.{IsHost}
+use Rattle.med_ring.specs.Tree.{members_in}
+use Rattle.med_ring.specs.Twice.{IsFirstTwice}
+use Rattle.med_ring.proofs.Faults.{misshapen_no_host, out_of_range_no_host, fault_no_hosts}
+use Rattle.med_ring.proofs.OneRing.{members_same, hosts_same}
+use Rattle.med_ring.proofs.Repeated.{twice_not_distinct}
+
+abbrev Member : Type 0
+Member = List ℕ × Data
+
+abbrev IsNoHost : Member → Type 0
+IsNoHost m = (h : RingHost) → IsHost m h → ⊥
+
+-- the first member that is no host is one
+first_same : (b : List Member) (x : Member) (r : List Member) (hs : List RingHost)
+    (c : List Member) (y : Member) (s : List Member) (gs : List RingHost)
+    → b ++ x ∷ r ≡ c ++ y ∷ s → AllZip IsHost b hs → AllZip IsHost c gs → IsNoHost x → IsNoHost y
+    → x ≡ y
+first_same [] x r hs [] y s gs e p q no_x no_y = cc e
+first_same [] x r hs (n ∷ c) y s [] e p q no_x no_y = absurd q
+first_same [] x r hs (n ∷ c) y s (g ∷ gs) e p q no_x no_y =
+    let is : n ≡ x = cc e in
+    absurd (no_x g (subst (λ (m : Member). IsHost m g) is q.0))
+first_same (m ∷ b) x r [] c y s gs e p q no_x no_y = absurd p
+first_same (m ∷ b) x r (h ∷ hs) [] y s gs e p q no_x no_y =
+    let is : m ≡ y = cc e in
+    absurd (no_y h (subst (λ (n : Member). IsHost n h) is p.0))
+first_same (m ∷ b) x r (h ∷ hs) (n ∷ c) y s [] e p q no_x no_y = absurd q
+first_same (m ∷ b) x r (h ∷ hs) (n ∷ c) y s (g ∷ gs) e p q no_x no_y =
+    let rest : b ++ x ∷ r ≡ c ++ y ∷ s = cc e in
+    first_same b x r hs c y s gs rest p.1 q.1 no_x no_y
+
+-- the member at fault is one
+bad_same : (f g : Member → Type 0) (bytes name other : List ℕ)
+    → ((m : Member) → f m → IsNoHost m) → ((m : Member) → g m → IsNoHost m)
+    → (p : IsFaultOf f bytes name) (q : IsFaultOf g bytes other) → p.first.bad ≡ q.first.bad
+bad_same f g bytes name other no_f no_g p q =
+    let tree : p.tree ≡ q.tree = cc (sym p.reads ∙ q.reads) in
+    let members : p.members ≡ q.members =
+    members_same p.tree q.tree p.members q.members tree p.members_are q.members_are in
+    let e : p.first.before ++ p.first.bad ∷ p.first.rest
+    ≡ q.first.before ++ q.first.bad ∷ q.first.rest =
+    sym p.first.cut ∙ ap members_in members ∙ q.first.cut in
+    first_same p.first.before p.first.bad p.first.rest p.first.hosts q.first.before q.first.bad
+    q.first.rest q.first.hosts e p.first.hosts_before q.first.hosts_before
+    (no_f p.first.bad p.first.at_fault) (no_g q.first.bad q.first.at_fault)
+
+-- one list, cut at two places
+abbrev Cuts : List ℤ → ℤ → List ℤ → ℤ → Type 0
+Cuts b s c t =
+    (s ≡ t) ⊎ (((m : List ℤ) × (c ≡ b ++ s ∷ m)) ⊎ ((m : List ℤ) × (b ≡ c ++ t ∷ m)))
+
+cuts_more : (x y : ℤ) (b : List ℤ) (s : ℤ) (c : List ℤ) (t : ℤ) → x ≡ y → Cuts b s c t
+    → Cuts (x ∷ b) s (y ∷ c) t
+cuts_more x y b s c t e (inl is) = inl is
+cuts_more x y b s c t e (inr (inl (m, is))) = inr (inl (m, λ i. sym e i ∷ is i))
+cuts_more x y b s c t e (inr (inr (m, is))) = inr (inr (m, λ i. e i ∷ is i))
+
+two_cuts : (b : List ℤ) (s : ℤ) (r : List ℤ) (c : List ℤ) (t : ℤ) (u : List ℤ)
+    → b ++ s ∷ r ≡ c ++ t ∷ u → Cuts b s c t
+two_cuts [] s r [] t u e = inl (cc e)
+two_cuts [] s r (y ∷ c) t u e =
+    let is : y ≡ s = cc e in inr (inl (c, λ i. is i ∷ c))
+two_cuts (x ∷ b) s r [] t u e =
+    let is : x ≡ t = cc e in inr (inr (b, λ i. is i ∷ b))
+two_cuts (x ∷ b) s r (y ∷ c) t u e =
+    let first : x ≡ y = cc e in
+    let rest : b ++ s ∷ r ≡ c ++ t ∷ u = cc e in
+    cuts_more x y b s c t first (two_cuts b s r c t u rest)
+
+decide : (s t : ℤ) (ts : List ℤ) (p : IsFirstTwice ts s) (q : IsFirstTwice ts t)
+    → Cuts p.before s q.before t → s ≡ t
+decide s t ts p q (inl is) = is
+decide s t ts p q (inr (inl (m, is))) =
+    absurd (twice_not_distinct q.before s
+    (record {
+      before = p.before;
+      rest = m;
+      cut = is;
+      stood = p.stood;
+      distinct = p.distinct;
+    })
+    q.distinct)
+decide s t ts p q (inr (inr (m, is))) =
+    absurd (twice_not_distinct p.before t
+    (record {
+      before = q.before;
+      rest = m;
+      cut = is;
+      stood = q.stood;
+      distinct = q.distinct;
+    })
+    p.distinct)
+
+-- the first token that stood before is one
+twice_same : (s t : ℤ) (ts : List ℤ) → IsFirstTwice ts s → IsFirstTwice ts t → s ≡ t
+twice_same s t ts p q =
+    decide s t ts p q (two_cuts p.before s p.rest q.before t q.rest (sym p.cut ∙ q.cut))
+
+tokens_same : (bytes : List ℕ) (s t : ℤ) → HasTwice bytes s → HasTwice bytes t → s ≡ t
+tokens_same bytes s t p q =
+    let tree : p.tree ≡ q.tree = cc (sym p.reads ∙ q.reads) in
+    let members : p.members ≡ q.members =
+    members_same p.tree q.tree p.members q.members tree p.members_are q.members_are in
+    let zip : AllZip IsHost (members_in q.members) p.hosts =
+    subst (λ (ms : Members). AllZip IsHost (members_in ms) p.hosts) members p.hosts_are in
+    let same : p.hosts ≡ q.hosts =
+    hosts_same (members_in q.members) p.hosts q.hosts zip q.hosts_are in
+    twice_same s t (tokens_in q.hosts)
+    (subst (λ (hs : List RingHost). IsFirstTwice (tokens_in hs) s) same p.twice) q.twice
+
+-- JSON and no JSON
+no_text : (bytes : List ℕ) (tree : Data) → (IsUtf8 bytes → read bytes ≡ None) → IsUtf8 bytes
+    → read bytes ≡ Some tree → ⊥
+no_text bytes tree none utf8 reads = cc (sym reads ∙ none utf8)
+
+-- an object and none
+no_members : (bytes name : List ℕ) → IsNoObject bytes name → (tree : Data) (ms : Members)
+    → read bytes ≡ Some tree → as_object tree ≡ Some ms → ⊥
+no_members bytes name f tree ms reads is =
+    let same : tree ≡ f.tree = cc (sym reads ∙ f.reads) in
+    cc (sym is ∙ ap as_object same ∙ f.no_object)
+
+-- a host out of its form is not one with a token out of range
+forms_apart : (bytes name other : List ℕ) → IsFaultOf IsMisshapen bytes name
+    → IsFaultOf IsOutOfRange bytes other → ⊥
+forms_apart bytes name other p q =
+    let same : q.first.bad ≡ p.first.bad =
+    sym (bad_same IsMisshapen IsOutOfRange bytes name other misshapen_no_host
+    out_of_range_no_host p q) in
+    p.first.at_fault (subst IsOutOfRange same q.first.at_fault).shaped
+
+names_same : (fault : Member → Type 0) (bytes name other : List ℕ)
+    → ((m : Member) → fault m → IsNoHost m) → IsFaultOf fault bytes name
+    → IsFaultOf fault bytes other → name ≡ other
+names_same fault bytes name other no_host p q =
+    let same : p.first.bad ≡ q.first.bad =
+    bad_same fault fault bytes name other no_host no_host p q in
+    p.first.name_is ∙ ap (λ (m : Member). m.0) same ∙ sym q.first.name_is
+
+pub cause_is_one : CauseIsOne
+cause_is_one bytes NotJson NotJson p q = tt
+cause_is_one bytes NotJson (NotRing h) p (inl q) = no_text bytes q.tree p q.utf8 q.reads
+cause_is_one bytes NotJson (NotRing h) p (inr q) = no_text bytes q.tree p q.utf8 q.reads
+cause_is_one bytes NotJson (TokenRange h) p q = no_text bytes q.tree p q.utf8 q.reads
+cause_is_one bytes NotJson (TokenTwice t) p q = no_text bytes q.tree p q.utf8 q.reads
+cause_is_one bytes (NotRing h) NotJson (inl p) q = no_text bytes p.tree q p.utf8 p.reads
+cause_is_one bytes (NotRing h) NotJson (inr p) q = no_text bytes p.tree q p.utf8 p.reads
+cause_is_one bytes (NotRing h) (NotRing g) (inl p) (inl q) = p.no_name ∙ sym q.no_name
+cause_is_one bytes (NotRing h) (NotRing g) (inl p) (inr q) =
+    absurd (no_members bytes (string_bytes h) p q.tree q.members q.reads q.members_are)
+cause_is_one bytes (NotRing h) (NotRing g) (inr p) (inl q) =
+    absurd (no_members bytes (string_bytes g) q p.tree p.members p.reads p.members_are)
+cause_is_one bytes (NotRing h) (NotRing g) (inr p) (inr q) =
+    names_same IsMisshapen bytes (string_bytes h) (string_bytes g) misshapen_no_host p q
+cause_is_one bytes (NotRing h) (TokenRange g) (inl p) q =
+    no_members bytes (string_bytes h) p q.tree q.members q.reads q.members_are
+cause_is_one bytes (NotRing h) (TokenRange g) (inr p) q =
+    forms_apart bytes (string_bytes h) (string_bytes g) p q
+cause_is_one bytes (NotRing h) (TokenTwice t) (inl p) q =
+    no_members bytes (string_bytes h) p q.tree q.members q.reads q.members_are
+cause_is_one bytes (NotRing h) (TokenTwice t) (inr p) q =
+    fault_no_hosts IsMisshapen misshapen_no_host bytes (string_bytes h) p q.tree q.members q.hosts
+    q.reads q.members_are q.hosts_are
+cause_is_one bytes (TokenRange h) NotJson p q = no_text bytes p.tree q p.utf8 p.reads
+cause_is_one bytes (TokenRange h) (NotRing g) p (inl q) =
+    no_members bytes (string_bytes g) q p.tree p.members p.reads p.members_are
+cause_is_one bytes (TokenRange h) (NotRing g) p (inr q) =
+    forms_apart bytes (string_bytes g) (string_bytes h) q p
+cause_is_one bytes (TokenRange h) (TokenRange g) p q =
+    names_same IsOutOfRange bytes (string_bytes h) (string_bytes g) out_of_range_no_host p q
+cause_is_one bytes (TokenRange h) (TokenTwice t) p q =
+    fault_no_hosts IsOutOfRange out_of_range_no_host bytes (string_bytes h) p q.tree q.members
+    q.hosts q.reads q.members_are q.hosts_are
+cause_is_one bytes (TokenTwice s) NotJson p q = no_text bytes p.tree q p.utf8 p.reads
+cause_is_one bytes (TokenTwice s) (NotRing g) p (inl q) =
+    no_members bytes (string_bytes g) q p.tree p.members p.reads p.members_are
+cause_is_one bytes (TokenTwice s) (NotRing g) p (inr q) =
+    fault_no_hosts IsMisshapen misshapen_no_host bytes (string_bytes g) q p.tree p.members p.hosts
+    p.reads p.members_are p.hosts_are
+cause_is_one bytes (TokenTwice s) (TokenRange g) p q =
+    fault_no_hosts IsOutOfRange out_of_range_no_host bytes (string_bytes g) q p.tree p.members
+    p.hosts p.reads p.members_are p.hosts_are
+cause_is_one bytes (TokenTwice s) (TokenTwice t) p q = tokens_same bytes s t p q
