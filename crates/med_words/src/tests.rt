@@ -1,5 +1,5 @@
 // Command lines by the rules of docs/COMMANDS.md. A row's words are divided by bars.
-use crate::{Usage, WordsError, read_words};
+use crate::{Usage, WordsError, one_request, read_words};
 use std::alloc::Global;
 use std::test::Fail;
 
@@ -102,6 +102,7 @@ fn words_that_are_no_line(rt: HostRuntime) -> Result<(), Fail> {
 
 #[test]
 fn no_words_are_no_line(rt: HostRuntime) {
+    one_request();
     let words: Vec<String> = Vec::new(rt.alloc());
     let is_line = match read_words(rt.alloc(), words.as_slice()) {
         Err(WordsError::Usage(Usage::Line)) => true,
