@@ -4,5 +4,6 @@ pub mod Places
 pub mod Refusals
 pub mod Seen
 pub mod Tree
+pub mod Vault
 pub mod Whole
 pub mod Written
