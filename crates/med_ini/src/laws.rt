@@ -3,6 +3,6 @@ ghost use Rattle.med_ini.specs.Grammar.{HasOneReading, HasOneFault};
 
 /// A law: bytes have at most one list of entries, and at most one first fault.
 pub fn one_reading()
-    ensures reading { HasOneReading }
-    ensures fault { HasOneFault }
+    ensures one { HasOneReading }
+    ensures one_cause { HasOneFault }
 {}
