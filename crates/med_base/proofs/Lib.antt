@@ -1,3 +1,4 @@
+pub mod DecimalLemmas
 pub mod Base64Lemmas
 pub mod Cuts
 pub mod EntryLemmas

@@ -1,6 +1,7 @@
 pub mod Classify
 pub mod Content
 pub mod Cut
+pub mod Decimal
 pub mod Digest
 pub mod Entries
 pub mod Fingerprint

@@ -9,6 +9,7 @@ mod builders;
 mod classify;
 mod component;
 mod cut;
+mod decimal;
 mod digest;
 mod entries;
 mod fingerprint;
@@ -24,6 +25,7 @@ mod prefix;
 
 pub use component::Component;
 pub use cut::cut_at;
+pub use decimal::decimal_in;
 pub use digest::{BadDigest, read_md5};
 pub use fingerprint::{Fingerprint, md5_text};
 pub use key::FileKey;

@@ -1,7 +1,7 @@
 // Names and their first faults by the rules, and the digests of RFC 1321, A.5.
 use crate::{
     BackupName, Component, FileKey, Fingerprint, Fqdn, Layout, MetaKind, NameError, NoMemory,
-    ObjPath, cut_at, md5_text,
+    ObjPath, cut_at, decimal_in, md5_text,
 };
 use std::alloc::Global;
 use std::test::Fail;
@@ -235,4 +235,26 @@ fn a_text_is_cut_at_the_first_such_byte(rt: HostRuntime) {
     let (whole, none) = cut_at(b"ab", b'/');
     assert_eq!(rt; whole, b"ab".as_slice());
     assert!(rt; none.is_none());
+}
+
+#[test]
+fn a_number_has_few_digits_and_a_limit(rt: HostRuntime) {
+    for (text, places, limit, wanted) in [
+        ("0", 4, 64, Some(0)),
+        ("64", 4, 64, Some(64)),
+        ("65", 4, 64, None),
+        ("0064", 4, 64, Some(64)),
+        ("00064", 4, 64, None),
+        ("", 4, 64, None),
+        ("+1", 4, 64, None),
+        ("-1", 4, 64, None),
+        (" 1", 4, 64, None),
+        ("1.", 4, 64, None),
+        ("\u{663}", 4, 64, None),
+        ("4294967295", 10, u32::MAX, Some(u32::MAX)),
+        ("4294967296", 10, u32::MAX, None),
+        ("9999999999", 10, u32::MAX, None),
+    ] {
+        assert_eq!(rt; decimal_in(text, places, limit), wanted);
+    }
 }

@@ -1,5 +1,4 @@
 pub mod CheckLemmas
-pub mod DigitLemmas
 pub mod Distinct
 pub mod Faults
 pub mod LabelLemmas

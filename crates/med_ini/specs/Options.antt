@@ -1,10 +1,10 @@
 -- The options that the commands read, with their checks in order. A text is the list of its bytes.
-use Rattle.std.specs.Prelude.{◌≡◌, ℕ, Bool, ◌&&◌, ◌||◌, ◌==◌, nat_lt, nat_le, List, [], ◌∷◌, Option, Some, None, is_some, option_map, unwrap_or, string_bytes, length, codes, if◌then◌else◌}
-use Rattle.std.specs.Char.{is_ascii_digit}
-use Rattle.std.specs.List.{list_any, list_all}
+use Rattle.std.specs.Prelude.{◌≡◌, ℕ, Bool, ◌||◌, ◌==◌, List, [], ◌∷◌, Option, Some, None, is_some, option_map, unwrap_or, string_bytes, codes, if◌then◌else◌}
+use Rattle.std.specs.List.{list_any}
 use Rattle.std.specs.Option.{option_or}
 use Rattle.std.specs.Str.{bytes_eq}
 use Rattle.std.specs.Str.Parse.{digits_value}
+use Rattle.med_base.specs.Decimal.{is_decimal}
 use Rattle.med_base.specs.Names.{component_fault, begins_with_dot, fqdn_fault}
 use Rattle.med_base.specs.Prefix.{prefix_fault, before_of}
 use Rattle.med_ini.specs.Entries.{Entry, value_of}
@@ -48,8 +48,7 @@ is_bad_node text = is_some (fqdn_fault text)
 
 -- 1 to 10 decimal digits with a value of at most 4294967295; zeros may lead
 abbrev pub is_number : List ℕ → Bool
-is_number text = list_all is_ascii_digit text && nat_lt 0 (length text) && nat_le (length text) 10
-    && nat_le (digits_value 10 text) 4294967295
+is_number text = is_decimal 10 4294967295 text
 
 -- the only provider is `local`
 abbrev pub provider_fault : Option (List ℕ) → Option Fault

@@ -6,8 +6,7 @@ ghost use Rattle.med_ini.specs.Options.{bad_name, has_nul, is_bad_bucket, is_bad
 
 use crate::Ini;
 use crate::config::ConfigError;
-use crate::numbers::number_in;
-use med_base::{Component, Fqdn, Layout, NameError};
+use med_base::{Component, Fqdn, Layout, NameError, decimal_in};
 use std::alloc::{AllocError, Global};
 
 fn contains_nul(text: &[u8]) -> bool
@@ -175,7 +174,7 @@ pub(crate) fn number_of(ini: &Ini, option: &'static str, absent: u32) -> Result<
     let Some(text) = stored_in(ini, option) else {
         return Ok(absent);
     };
-    match number_in(text) {
+    match decimal_in(text, 10, u32::MAX) {
         Some(number) => Ok(number),
         None => Err(ConfigError::BadNumber { option }),
     }

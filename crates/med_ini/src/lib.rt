@@ -12,7 +12,6 @@ mod ini;
 mod labels;
 mod laws;
 mod lines;
-mod numbers;
 mod overrides;
 mod read;
 mod reading;

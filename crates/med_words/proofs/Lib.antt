@@ -15,7 +15,6 @@ pub mod OwnLemmas
 pub mod OneLine
 pub mod OneRequest
 pub mod LineLemmas
-pub mod Counts
 pub mod SaidLemmas
 pub mod TheTables
 pub mod FirstLook

@@ -1,10 +1,10 @@
 -- The values that options take, and the first option whose value isn't one.
-use Rattle.std.specs.Prelude.{ℕ, Bool, false, ◌&&◌, nat_lt, nat_le, List, [], ◌∷◌, length, Option, Some, None, is_some, option_map, codes, if◌then◌else◌}
-use Rattle.std.specs.Char.{is_ascii_digit}
-use Rattle.std.specs.List.{find, list_all}
+use Rattle.std.specs.Prelude.{ℕ, Bool, false, ◌&&◌, nat_lt, List, [], ◌∷◌, Option, Some, None, is_some, option_map, codes, if◌then◌else◌}
+use Rattle.std.specs.List.{find}
 use Rattle.std.specs.Option.{is_none}
 use Rattle.std.specs.Str.{bytes_eq}
 use Rattle.std.specs.Str.Parse.{digits_value}
+use Rattle.med_base.specs.Decimal.{is_decimal}
 use Rattle.med_base.specs.Names.{backup_fault}
 use Rattle.med_outside.specs.declared.mode.Mode.{Mode}
 use Rattle.med_outside.specs.declared.mode.Mode.TheVariants.{Full, Differential}
@@ -23,9 +23,7 @@ read_mode text =
 
 -- 1 to 4 decimal digits with a value from 1 to a limit; zeros may lead
 abbrev pub is_count : ℕ → Text → Bool
-is_count limit text =
-    list_all is_ascii_digit text && nat_lt 0 (length text) && nat_le (length text) 4
-    && nat_lt 0 (digits_value 10 text) && nat_le (digits_value 10 text) limit
+is_count limit text = is_decimal 4 limit text && nat_lt 0 (digits_value 10 text)
 
 -- the number that these digits write
 abbrev pub read_count : ℕ → Text → Option ℕ

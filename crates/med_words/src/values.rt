@@ -1,7 +1,5 @@
 // The values that options take.
 ghost use Rattle.std.specs.Prelude.{◌≡◌, Some, None, false, IfOk, IfErr, option_map, codes};
-ghost use Rattle.std.specs.Char.{is_ascii_digit};
-ghost use Rattle.std.specs.List.{list_all};
 ghost use Rattle.med_outside.specs.declared.mode.Mode.TheVariants.{Differential};
 ghost use Rattle.med_words.specs.Values.{read_mode, read_count, read_name, read_workers, read_rounds, given_or, fails};
 ghost use Rattle.med_words.specs.Views.{own_view};
@@ -11,7 +9,7 @@ ghost use Rattle.med_words.specs.declared.request.Usage.TheVariants as Usage;
 
 use crate::line::Own;
 use crate::request::{Usage, WordsError};
-use med_base::{BackupName, NameError};
+use med_base::{BackupName, NameError, decimal_in};
 use med_outside::Mode;
 use std::alloc::Global;
 
@@ -24,23 +22,13 @@ pub(crate) struct Values {
     pub(crate) rounds: Option<u32>,
 }
 
-fn are_digits(text: &[u8]) -> bool
-    ensures { result ≡ list_all is_ascii_digit text.now }
-{
-    text.iter().all(|byte| byte.is_ascii_digit())
-}
-
 /// The number that 1 to 4 digits write, from 1 to the limit.
 fn count_in(limit: u32, text: &str) -> Option<u32>
     ensures { result ≡ read_count limit text.now }
 {
-    if 4 < text.len() || !are_digits(text.as_bytes()) {
-        return None;
-    }
-    match text.parse::<u32>() {
-        Ok(count) if 0 < count && count <= limit => Some(count),
-        Ok(_) => None,
-        Err(_) => None,
+    match decimal_in(text, 4, limit) {
+        Some(count) if 0 < count => Some(count),
+        _ => None,
     }
 }
 
