@@ -66,6 +66,7 @@ pub record Counts {T : Type 0} (old new : Told) (result : Result T Denied) : Typ
   pub calls : new.calls ≡ min (old.calls + 1) (2 ^ 64 - 1)
   pub faults : new.faults ≡ faults_after result old.faults
   pub full : IsErrOf result Failed → IsFull old
+  pub told : IsFull old → IsErrOf result Failed
 
 -- nothing changed but the number of calls and the count of faults, in the words of the trait
 abbrev pub Stays : Told → Told → Type 0

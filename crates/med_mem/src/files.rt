@@ -118,7 +118,7 @@ impl Files for MemFiles {
         ensures ok { IfOk result (λ file. (is_failing self.old ≡ false)
             × (option_map (λ bytes. bytes.items) file ≡ file_at name.now self.old)) }
         ensures failed { IsErrOf result Failed → is_failing self.old ≡ true }
-        ensures same { self.new.files ≡ self.old.files }
+        ensures same { (self.new.files ≡ self.old.files) × (self.new.failing ≡ self.old.failing) }
         ensures counts { (self.new.calls ≡ min (self.old.calls + 1) (2 ^ 64 - 1))
             × (self.new.faults ≡ faults_after result self.old.faults) }
         ensures cause { HasCause self.old.faults self.new.faults result }
