@@ -4,12 +4,14 @@ use Rattle.std.proofs.lemmas.List.{take_all}
 use Rattle.std.proofs.lemmas.Str.{utf8_valid_len-IsValidUpTo}
 use Rattle.std.specs.List.{count_by}
 use Rattle.std.specs.Str.{IsUtf8}
-use Rattle.med_ini.specs.Grammar.{FaultOn, IsBadByteOn, IsFaultOn}
+use Rattle.med_ini.specs.Grammar.{IsIni, FaultOn, IsBadByteOn, IsFaultOn}
+use Rattle.med_ini.specs.Entries.{Entry}
 use Rattle.med_ini.specs.Labels.{Label, Place, IsFault, Reads, FirstFault, start, after}
 use Rattle.med_ini.specs.Lines.{Line, lines_of}
 use Rattle.med_ini.specs.declared.errors.IniKind.{IniKind}
 use Rattle.med_ini.specs.declared.errors.IniKind.TheVariants.{NotUtf8, NoSection, NoDelimiter, DuplicateSection, DuplicateOption, EmptyKey}
 use Rattle.med_ini.proofs.Faults.{one_fault}
+use Rattle.med_ini.proofs.Readings.{fault_stops}
 use Rattle.med_ini.proofs.Rules.{one_label, no_label}
 
 head_same : (x y : Line) (xs ys : List Line) → x ∷ xs ≡ y ∷ ys → x ≡ y
@@ -101,4 +103,11 @@ one_fault_of bytes a b k l f g = elim (either bytes a k f) [
     | inl bad ↦ absurd (not_bad bytes b on.utf8 bad.1)
     | inr also ↦ one_first (lines_of bytes) a b k l on.first also.first
   ]
+]
+
+pub fault_none : (bytes : List ℕ) (a : ℕ) (k : IniKind) → FaultOn bytes a k → (entries : List Entry)
+    → IsIni bytes entries → ⊥
+fault_none bytes a k f entries ini = elim (either bytes a k f) [
+  | inl bad ↦ not_bad bytes a ini.utf8 bad.1
+  | inr on ↦ fault_stops (lines_of bytes) a k ini.labels ini.end on.first ini.reads
 ]

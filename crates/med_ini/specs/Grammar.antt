@@ -58,6 +58,11 @@ HasNone bytes Memory = Unit {0}
 abbrev pub HasOneReading : Type 0
 HasOneReading = (bytes : List ℕ) (a b : List Entry) → IsIni bytes a → IsIni bytes b → a ≡ b
 
+-- bytes that have a fault have no entries
+abbrev pub FaultsAreNone : Type 0
+FaultsAreNone = (bytes : List ℕ) (line : ℕ) (kind : IniKind) → FaultOn bytes line kind
+    → (entries : List Entry) → IsIni bytes entries → ⊥
+
 -- bytes have one first fault
 abbrev pub HasOneFault : Type 0
 HasOneFault = (bytes : List ℕ) (a b : ℕ) (k l : IniKind) → FaultOn bytes a k → FaultOn bytes b l
