@@ -103,6 +103,11 @@ IsSameWhy (TokenRange a) (TokenRange b) = string_bytes a ≡ string_bytes b
 IsSameWhy (TokenTwice s) (TokenTwice t) = s ≡ t
 IsSameWhy _ _ = ⊥
 
+-- bytes that have a cause to be refused are no token map, of whatever hosts
+abbrev pub RefusedAreNone : Type 0
+RefusedAreNone = (bytes : List ℕ) (why : RingWhy) → BlamesRing bytes (Why why)
+    → (hosts : List RingHost) → IsRing bytes hosts → ⊥
+
 -- bytes are refused for one cause at most
 abbrev pub CauseIsOne : Type 0
 CauseIsOne = (bytes : List ℕ) (a b : RingWhy) → BlamesRing bytes (Why a) → BlamesRing bytes (Why b)
