@@ -2,6 +2,7 @@ pub mod Digests
 pub mod Names
 pub mod Nesting
 pub mod Once
+pub mod OneCause
 pub mod PlaceLemmas
 pub mod RecordLemmas
 pub mod Refused

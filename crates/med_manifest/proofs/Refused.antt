@@ -37,7 +37,7 @@ not_before (x ∷ xs) k ys d =
     among (a ∷ us) all = among us all.1
 
 -- the first fault of these files leaves no records of them
-no_records : (before f n : List ℕ) (why : ManifestWhy) (files : List Named)
+pub no_records : (before f n : List ℕ) (why : ManifestWhy) (files : List Named)
     (records : List FileRecord)
     → IsFirstFault before f n files why → AreRecords before f n files records → ⊥
 no_records before f n why files records first are =
@@ -77,7 +77,7 @@ named_fault before f n bytes why files fault is =
     no_records before f n why fault.files files fault.first
     (subst (λ (fs : List Named). AreRecords before f n fs files) same is.records)
 
-not_shaped : (tree : Data) (at : ℕ) (files : List Named) → IsUnshapedAt tree at
+pub not_shaped : (tree : Data) (at : ℕ) (files : List Named) → IsUnshapedAt tree at
     → HasFiles tree files → ⊥
 not_shaped tree at files (no_list none zero) has =
     let bad : None ≡ Some has.list = sym none ∙ has.list_is in cc bad

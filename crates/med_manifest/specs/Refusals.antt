@@ -104,3 +104,13 @@ abbrev pub RefusesManifest : List ℕ → List ℕ → List ℕ → List ℕ →
 RefusesManifest before f n bytes (Why why) =
     (files : List FileRecord) → IsManifest before f n bytes files → ⊥
 RefusesManifest before f n bytes Memory = Unit {0}
+
+-- bytes that are refused are the manifest of the backup with no files whatever
+abbrev pub RefusedAreNone : Type 0
+RefusedAreNone = (before f n bytes : List ℕ) (why : ManifestWhy) → IsRefused before f n bytes why
+    → (files : List FileRecord) → IsManifest before f n bytes files → ⊥
+
+-- bytes are refused for one cause at most, with one place or path
+abbrev pub CausesAreOne : Type 0
+CausesAreOne = (before f n bytes : List ℕ) (a b : ManifestWhy) → IsRefused before f n bytes a
+    → IsRefused before f n bytes b → a ≡ b
