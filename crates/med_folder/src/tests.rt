@@ -35,10 +35,11 @@ fn put_three<S: Storage>(alloc: Global, store: &mut S) -> Result<[u64; 3], Denie
     Ok([schema, empty, dashed])
 }
 
-// The listings under nothing and under a text that is no folder, one after the other.
+// The listings under nothing, under a text that is no folder, and under a link to a folder, one
+// after the other.
 fn list_twice<S: Storage>(alloc: Global, store: &mut S) -> Result<String, Denied> {
     let mut text = String::new(alloc);
-    for under in ["", "n1/b"] {
+    for under in ["", "n1/b", "linked/"] {
         for entry in &store.list(alloc, under)? {
             let path = entry.path.as_str();
             let (size, second) = (entry.size, entry.second);
