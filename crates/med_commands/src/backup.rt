@@ -1,6 +1,7 @@
 // The command `backup`.
 ghost use Rattle.std.specs.Prelude.{◌≡◌, ◌≤◌, [], IfOk, IfErr, OnOk};
 ghost use Rattle.med_outside.specs.declared.mode.Mode.TheVariants.{Full};
+ghost use Rattle.med_outside.specs.Counts.{AreClosed};
 ghost use Rattle.med_words.specs.Views.{asked_of};
 ghost use Rattle.med_words.specs.Request.{backup};
 ghost use Rattle.med_commands.specs.Ends.{IsUnprinted, IsEndOf};
@@ -73,6 +74,7 @@ pub(crate) fn back_up<F: Files, S: Storage, N: Nodes, O: Sink>(
     ensures files_same { F.held files.new ≡ F.held files.old }
     ensures nodes_same { N.snaps nodes.new ≡ N.snaps nodes.old }
     ensures files_later { F.faults files.old ≤ F.faults files.new }
+    ensures closed { AreClosed (N.counts nodes.old) (N.counts nodes.new) }
     ensures nodes_later { N.faults nodes.old ≤ N.faults nodes.new }
     ensures store_later { (S.state store.old).faults ≤ (S.state store.new).faults }
     ensures out_later { O.faults out.old ≤ O.faults out.new }

@@ -1,5 +1,6 @@
 // The top call.
 ghost use Rattle.std.specs.Prelude.{◌≡◌, ◌≤◌, [], false, IfErr, OnOk, map, string_bytes, codes};
+ghost use Rattle.med_outside.specs.Counts.{AreClosed};
 ghost use Rattle.med_words.specs.Views.{asked_of};
 ghost use Rattle.med_commands.specs.Ends.{IsEndOf};
 ghost use Rattle.med_commands.specs.Headline.{around, stream, is_built, IsBackedUp, Answers, HasMoments, IsOutcome};
@@ -41,6 +42,7 @@ fn run<F: Files, S: Storage, N: Nodes, O: Sink>(
     ensures files_same { F.held files.new ≡ F.held files.old }
     ensures nodes_same { N.snaps nodes.new ≡ N.snaps nodes.old }
     ensures files_later { F.faults files.old ≤ F.faults files.new }
+    ensures closed { AreClosed (N.counts nodes.old) (N.counts nodes.new) }
     ensures nodes_later { N.faults nodes.old ≤ N.faults nodes.new }
     ensures store_later { (S.state store.old).faults ≤ (S.state store.new).faults }
     ensures out_later { O.faults out.old ≤ O.faults out.new }
@@ -84,6 +86,7 @@ pub fn run_command<F: Files, S: Storage, N: Nodes, O: Sink, E: Sink>(
     ensures files_same { F.held files.new ≡ F.held files.old }
     ensures nodes_same { N.snaps nodes.new ≡ N.snaps nodes.old }
     ensures files_later { F.faults files.old ≤ F.faults files.new }
+    ensures closed { AreClosed (N.counts nodes.old) (N.counts nodes.new) }
     ensures nodes_later { N.faults nodes.old ≤ N.faults nodes.new }
     ensures store_later { (S.state store.old).faults ≤ (S.state store.new).faults }
     ensures out_later { O.faults out.old ≤ O.faults out.new }
@@ -98,7 +101,8 @@ pub fn run_command<F: Files, S: Storage, N: Nodes, O: Sink, E: Sink>(
 /// Runs one command. The words don't contain the program's name.
 ///
 /// The words are read first, and words that ask for nothing are refused before anything else is
-/// done. Then the request is answered as `run_command` says.
+/// done. Then the request is answered as `run_command` says. Each snapshot that was opened is closed
+/// whatever the answer is.
 pub fn medusa_main<F: Files, S: Storage, N: Nodes, O: Sink, E: Sink>(
     alloc: Global,
     words: &[String],
@@ -117,6 +121,7 @@ pub fn medusa_main<F: Files, S: Storage, N: Nodes, O: Sink, E: Sink>(
     ensures files_same { F.held files.new ≡ F.held files.old }
     ensures nodes_same { N.snaps nodes.new ≡ N.snaps nodes.old }
     ensures files_later { F.faults files.old ≤ F.faults files.new }
+    ensures closed { AreClosed (N.counts nodes.old) (N.counts nodes.new) }
     ensures nodes_later { N.faults nodes.old ≤ N.faults nodes.new }
     ensures store_later { (S.state store.old).faults ≤ (S.state store.new).faults }
     ensures out_later { O.faults out.old ≤ O.faults out.new }

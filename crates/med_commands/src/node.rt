@@ -1,5 +1,6 @@
 // A full backup of one node into the bucket.
 ghost use Rattle.std.specs.Prelude.{◌≡◌, ◌≤◌, IfOk, IfErr};
+ghost use Rattle.med_outside.specs.Counts.{AreClosed};
 ghost use Rattle.med_commands.specs.Answers.{IsMade, Leaves, BlamesLook, IsCausedOf};
 ghost use Rattle.med_commands.specs.Site.{site_of, opened_at, snap_at, LeavesAt};
 
@@ -65,6 +66,7 @@ fn backup_opened<S: Storage, N: Nodes>(
         (snap_at (N.snaps nodes.old) (site_of config.now) name.now) (S.state store.old)
         (S.state store.new) (S.stood_since store.old) (S.stood_since store.new)) }
     ensures same { N.snaps nodes.new ≡ N.snaps nodes.old }
+    ensures closed { AreClosed (N.counts nodes.old) (N.counts nodes.new) }
     ensures nodes_later { N.faults nodes.old ≤ N.faults nodes.new }
     ensures store_later { (S.state store.old).faults ≤ (S.state store.new).faults }
     ensures cause { IfErr result
@@ -109,6 +111,7 @@ pub(crate) fn backup_node<S: Storage, N: Nodes>(
         (snap_at (N.snaps nodes.old) (site_of config.now) name.now) (S.state store.old)
         (S.state store.new) (S.stood_since store.old) (S.stood_since store.new)) }
     ensures same { N.snaps nodes.new ≡ N.snaps nodes.old }
+    ensures closed { AreClosed (N.counts nodes.old) (N.counts nodes.new) }
     ensures nodes_later { N.faults nodes.old ≤ N.faults nodes.new }
     ensures store_later { (S.state store.old).faults ≤ (S.state store.new).faults }
     ensures cause { IfErr result

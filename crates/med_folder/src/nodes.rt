@@ -1,5 +1,6 @@
 // Nodes as folders.
 ghost use Rattle.std.specs.Prelude.{◌≡◌, ℕ, None, IfOk};
+ghost use Rattle.med_folder.specs.Untold.{nodes_edge};
 
 use crate::FolderSnap;
 use crate::count::counted;
@@ -16,22 +17,29 @@ use std::marker::Model;
 pub struct FolderNodes<R> {
     rt: R,
     faults: u64,
+    opened: u64,
+    closed: u64,
 }
 
 impl<R> Model for FolderNodes<R> {
-    ghost use Rattle.std.specs.Prelude.{ℕ};
+    ghost use Rattle.med_folder.specs.Untold.{NodesEdge, nodes_edge};
 
-    ghost Value = { ℕ };
+    ghost Value = { NodesEdge };
 
-    ghost view = { λ s. s.faults };
+    ghost view = { λ s. nodes_edge s.faults s.opened s.closed };
 }
 
 impl<R> FolderNodes<R> {
-    /// Nodes without a fault.
+    /// Nodes without a fault, of which no snapshot was opened.
     pub fn new(rt: R) -> FolderNodes<R>
-        ensures { result ≡ 0 }
+        ensures { result ≡ nodes_edge 0 0 0 }
     {
-        FolderNodes { rt, faults: 0 }
+        FolderNodes {
+            rt,
+            faults: 0,
+            opened: 0,
+            closed: 0,
+        }
     }
 }
 
@@ -40,7 +48,9 @@ impl<R: Files + AllocGlobal + Clone + Drop> Nodes for FolderNodes<R> {
 
     ghost snaps = { λ _ _ _ _. None };
 
-    ghost faults = { λ s. s };
+    ghost faults = { λ s. s.faults };
+
+    ghost counts = { λ s. s.counts };
 
     fn open(
         &mut self,
@@ -50,10 +60,13 @@ impl<R: Files + AllocGlobal + Clone + Drop> Nodes for FolderNodes<R> {
         tag: &str,
     ) -> Result<FolderSnap<R>, Denied> {
         let outcome = open_snap(&self.rt, alloc, root, node.as_str(), tag);
-        counted(&mut self.faults, outcome)
+        let snap = counted(&mut self.faults, outcome)?;
+        self.opened = self.opened.saturating_add(1);
+        Ok(snap)
     }
 
     fn close(&mut self, snap: FolderSnap<R>) {
         self.faults = self.faults.saturating_add(snap.fault_count());
+        self.closed = self.closed.saturating_add(1);
     }
 }

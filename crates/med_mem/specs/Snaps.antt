@@ -6,6 +6,7 @@ use Rattle.std.specs.Map.{keys_of}
 use Rattle.std.specs.Str.{bytes_eq}
 use Rattle.med_base.specs.declared.key.FileKey.{FileKey}
 use Rattle.med_base.specs.Key.{key_eq}
+use Rattle.med_outside.specs.Counts.{SnapshotCounts}
 use Rattle.med_outside.specs.Snapshot.{Snapshot, raw_name}
 use Rattle.med_mem.specs.Distinct.{distinct}
 use Rattle.med_mem.specs.declared.snapshot.MemFile.{MemFile}
@@ -61,6 +62,8 @@ pub record Known : Type 0 where
   pub given : List Given
   -- how often a call failed
   pub faults : ℕ
+  -- how many snapshots were opened, and how many of them were closed
+  pub counts : SnapshotCounts
 
 -- it was added for these
 abbrev pub is_for : List ℕ → List ℕ → List ℕ → Given → Bool
@@ -122,6 +125,14 @@ given_as a = given_for (string_bytes a.root) (string_bytes a.node) (string_bytes
 -- the same of all of them
 abbrev pub given : List Added → List Given
 given = map given_as
+
+-- what the fields of nodes mean
+abbrev pub known_by : List Added → (faults opened closed : ℕ) → Known
+known_by snaps faults opened closed = record {
+  given = given snaps;
+  faults = faults;
+  counts = record { opened = opened; closed = closed };
+}
 
 -- a snapshot that was found, or none
 abbrev pub shown : Option (Bor MemSnap) → Option Snapshot

@@ -1,6 +1,7 @@
 // Nodes in memory, with the snapshots that were added to them.
 ghost use Rattle.std.specs.Prelude.{◌≡◌, [], Some, None, IfOk, IfErr, OnOk, OnErr, ◌≤◌, ◌+◌, ◌-◌, ◌^◌, min};
 ghost use Rattle.med_outside.specs.declared.denied.Denied.TheVariants.{Memory};
+ghost use Rattle.med_outside.specs.Counts.{after_open, with_closed};
 ghost use Rattle.med_mem.specs.Snaps.{snapshot_of, snapshot_at, held_by, HasAdded, Keeps, KeepsOthers, is_for, first_for, given, given_as, given_for, shown};
 
 use crate::snapshot::{MemOpened, MemSnap};
@@ -23,24 +24,32 @@ pub(crate) struct Added {
 pub struct MemNodes {
     snaps: Vec<Added>,
     faults: u64,
+    opened: u64,
+    closed: u64,
 }
 
 impl Model for MemNodes {
-    ghost use Rattle.med_mem.specs.Snaps.{Known, given};
+    ghost use Rattle.med_mem.specs.Snaps.{Known, known_by};
 
     ghost Value = { Known };
 
-    ghost view = { λ m. record { given = given m.snaps.items; faults = m.faults } };
+    ghost view = { λ m. known_by m.snaps.items m.faults m.opened m.closed };
 }
 
 impl MemNodes {
     /// Nodes without a snapshot. It takes no memory.
     pub fn new(alloc: Global) -> MemNodes
-        ensures { result ≡ record { given = []; faults = 0 } }
+        ensures { result ≡ record {
+          given = [];
+          faults = 0;
+          counts = record { opened = 0; closed = 0 };
+        } }
     {
         MemNodes {
             snaps: Vec::new(alloc),
             faults: 0,
+            opened: 0,
+            closed: 0,
         }
     }
 
@@ -59,6 +68,7 @@ impl MemNodes {
         ensures elsewhere { KeepsOthers root.now node.now tag.now self.old self.new }
         ensures err { OnErr result (self.new ≡ self.old) }
         ensures faults { self.new.faults ≡ self.old.faults }
+        ensures counts { self.new.counts ≡ self.old.counts }
     {
         let added = new_added(alloc, root, node, tag, snap)?;
         self.snaps.push(added)?;
@@ -114,6 +124,8 @@ impl Nodes for MemNodes {
 
     ghost faults = { λ m. m.faults };
 
+    ghost counts = { λ m. m.counts };
+
     fn open(
         &mut self,
         alloc: Global,
@@ -123,20 +135,26 @@ impl Nodes for MemNodes {
     ) -> Result<MemOpened, Denied>
         ensures held { IfOk result (λ s. held_by s ≡ snapshot_at self.old root.now node.now tag.now) }
         ensures fresh { IfOk result (λ snap. snap.faults ≡ 0) }
-        ensures same { self.new ≡ self.old }
+        ensures same { self.new.given ≡ self.old.given }
+        ensures faults { self.new.faults ≡ self.old.faults }
+        ensures counts { self.new.counts ≡ after_open result self.old.counts }
         ensures err { IfErr result (λ e. e ≡ Denied.Memory) }
     {
-        match find_added(self.snaps.as_slice(), root, node.as_str(), tag) {
-            Some(snap) => Ok(MemOpened::of(alloc, snap)?),
-            None => Ok(MemOpened::empty(alloc)),
-        }
+        let snap = match find_added(self.snaps.as_slice(), root, node.as_str(), tag) {
+            Some(snap) => MemOpened::of(alloc, snap)?,
+            None => MemOpened::empty(alloc),
+        };
+        self.opened = self.opened.saturating_add(1);
+        Ok(snap)
     }
 
     fn close(&mut self, snap: MemOpened)
         ensures same { self.new.given ≡ self.old.given }
+        ensures counts { self.new.counts ≡ with_closed self.old.counts }
         ensures later { self.old.faults ≤ self.new.faults }
         ensures faults { self.new.faults ≡ min (self.old.faults + snap.faults) (2 ^ 64 - 1) }
     {
         self.faults = self.faults.saturating_add(snap.faults());
+        self.closed = self.closed.saturating_add(1);
     }
 }

@@ -1,4 +1,5 @@
 pub mod Causes
+pub mod Counts
 pub mod Effects
 pub mod Sink
 pub mod Snapshot

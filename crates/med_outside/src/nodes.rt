@@ -2,6 +2,7 @@
 ghost use Rattle.std.specs.Prelude.{◌≡◌, ◌≤◌, ◌+◌, ◌-◌, ◌^◌, ℕ, List, Option, Some, IfOk, IfSome, map, min};
 ghost use Rattle.std.specs.FinMap as finite;
 ghost use Rattle.med_outside.specs.Causes.{HasCause};
+ghost use Rattle.med_outside.specs.Counts.{SnapshotCounts, after_open, with_closed};
 ghost use Rattle.med_outside.specs.Snapshot.{Snapshot, raw_name, HasKey, IsListed};
 
 use crate::Denied;
@@ -59,6 +60,9 @@ pub trait Nodes {
     /// How often a call failed, of the snapshots that were closed too.
     ghost faults: { Self → ℕ };
 
+    /// How many snapshots were opened, and how many of them were closed.
+    ghost counts: { Self → SnapshotCounts };
+
     /// The snapshot of the node with the tag. It has no keys where there is none. It changes
     /// nothing, and the snapshot's own count of faults begins at 0.
     fn open(
@@ -72,12 +76,14 @@ pub trait Nodes {
             (λ snap. Self.Snap.held snap ≡ snaps self.old root.now node.now tag.now) }
         ensures fresh { IfOk result (λ snap. Self.Snap.faults snap ≡ 0) }
         ensures same { snaps self.new ≡ snaps self.old }
+        ensures counts { counts self.new ≡ after_open result (counts self.old) }
         ensures cause { HasCause (faults self.old) (faults self.new) result };
 
     /// Gives a snapshot up. Its faults count with those of the nodes from now on. It takes no
     /// memory and is never refused.
     fn close(&mut self, snap: Self::Snap)
         ensures same { snaps self.new ≡ snaps self.old }
+        ensures counts { counts self.new ≡ with_closed (counts self.old) }
         ensures later { faults self.old ≤ faults self.new }
         ensures faults { faults self.new ≡ min (faults self.old + Self.Snap.faults snap)
             (2 ^ 64 - 1) };
