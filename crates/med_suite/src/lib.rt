@@ -5,6 +5,12 @@
 #![tactic(auto)]
 
 #[cfg(test)]
+mod calls;
+#[cfg(test)]
+mod refused;
+#[cfg(test)]
 mod rows;
+#[cfg(test)]
+mod said;
 #[cfg(test)]
 mod storages;
