@@ -16,11 +16,10 @@ use Rattle.med_words.specs.Request.{Asked}
 use Rattle.med_commands.specs.Answers.{IsMade, IsCutShort, BlamesLook, IsCausedOf}
 use Rattle.med_commands.specs.Backup.{IsFinished, IsBackupOf}
 use Rattle.med_commands.specs.Ends.{IsFaultOf, IsUnprinted, IsEndOf}
-use Rattle.med_commands.specs.Copies.{Copy, key_of, records_of, backup_puts, AreOf, IsBegun}
+use Rattle.med_commands.specs.Copies.{Copy, key_of, records_of, backup_puts, AreOf}
 use Rattle.med_commands.specs.Fault.{fault_for}
-use Rattle.med_commands.specs.Headline.{Stream, Around, Asks, AsksSome, is_built, IfTold, IsDone, IsBackedUp, HasMoments}
+use Rattle.med_commands.specs.Headline.{Stream, Around, Asks, is_built, IfTold, IsDone, HasMoments}
 use Rattle.med_commands.specs.Report.{report_line}
-use Rattle.med_commands.specs.Taken.{IsFree}
 use Rattle.med_commands.specs.Site.{Site, opened_at, snap_at, LeavesAt}
 use Rattle.med_commands.specs.declared.fault.Fault.{Fault}
 use Rattle.med_commands.specs.declared.fault.Fault.TheVariants.{Usage, NotBuilt, Config, Taken, Read, Storage, Write, NoSnapshot, BadFileName, Memory}

@@ -2,9 +2,11 @@ pub mod Apart
 pub mod Composed
 pub mod Copied
 pub mod Ended
+pub mod ExactLemmas
 pub mod Finished
 pub mod KeyLists
 pub mod Lists
+pub mod OneSite
 pub mod Placed
 pub mod Printing
 pub mod Stands

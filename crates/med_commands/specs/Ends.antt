@@ -1,5 +1,5 @@
 -- Why a command ended without its work or its line.
-use Rattle.std.specs.Prelude.{◌≡◌, ◌⊎◌, ℕ, List, [], Option, Some, true, false, IfSome}
+use Rattle.std.specs.Prelude.{◌≡◌, ◌⊎◌, ℕ, List, [], Some, true, false, IfSome}
 use Rattle.med_base.specs.Content.{Content}
 use Rattle.med_base.specs.Layout.{backup_folder}
 use Rattle.med_outside.specs.Causes.{Rose}

@@ -2,6 +2,7 @@ pub mod Answers
 pub mod Backup
 pub mod Copies
 pub mod Ends
+pub mod Exact
 pub mod Fault
 pub mod Headline
 pub mod Loaded

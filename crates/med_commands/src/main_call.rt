@@ -3,6 +3,7 @@ ghost use Rattle.std.specs.Prelude.{◌≡◌, ◌≤◌, [], false, IfErr, OnOk
 ghost use Rattle.med_outside.specs.Counts.{AreClosed};
 ghost use Rattle.med_words.specs.Views.{asked_of};
 ghost use Rattle.med_commands.specs.Ends.{IsEndOf};
+ghost use Rattle.med_commands.specs.Exact.{IsExact, AreExact};
 ghost use Rattle.med_commands.specs.Headline.{around, stream, is_built, IsBackedUp, Answers, HasMoments, IsOutcome};
 ghost use Rattle.med_commands.specs.Printed.{Wrote, Complains};
 ghost use Rattle.med_commands.specs.Status.{code, IsCodeOf};
@@ -79,6 +80,10 @@ pub fn run_command<F: Files, S: Storage, N: Nodes, O: Sink, E: Sink>(
         (stream (O.taken out.old) (O.taken out.new) (O.faults out.old) (O.faults out.new))
         (stream (E.taken err.old) (E.taken err.new) (E.faults err.old) (E.faults err.new))) }
     ensures unbuilt { is_built (asked_of request.now).action ≡ false → result ≡ code Usage }
+    ensures exact { IsExact (asked_of request.now)
+        (around (F.held files.old) (N.snaps nodes.old) (S.state store.old) (S.state store.new)
+        (F.faults files.old) (F.faults files.new) (N.faults nodes.old) (N.faults nodes.new))
+        (stream (O.taken out.old) (O.taken out.new) (O.faults out.old) (O.faults out.new)) result }
     ensures moments { HasMoments (asked_of request.now)
         (around (F.held files.old) (N.snaps nodes.old) (S.state store.old) (S.state store.new)
         (F.faults files.old) (F.faults files.new) (N.faults nodes.old) (N.faults nodes.new))
@@ -118,6 +123,10 @@ pub fn medusa_main<F: Files, S: Storage, N: Nodes, O: Sink, E: Sink>(
         (S.stood_since store.old) (S.stood_since store.new)
         (stream (O.taken out.old) (O.taken out.new) (O.faults out.old) (O.faults out.new))
         (stream (E.taken err.old) (E.taken err.new) (E.faults err.old) (E.faults err.new)) result }
+    ensures exact { AreExact (map string_bytes words.now)
+        (around (F.held files.old) (N.snaps nodes.old) (S.state store.old) (S.state store.new)
+        (F.faults files.old) (F.faults files.new) (N.faults nodes.old) (N.faults nodes.new))
+        (stream (O.taken out.old) (O.taken out.new) (O.faults out.old) (O.faults out.new)) result }
     ensures files_same { F.held files.new ≡ F.held files.old }
     ensures nodes_same { N.snaps nodes.new ≡ N.snaps nodes.old }
     ensures files_later { F.faults files.old ≤ F.faults files.new }
