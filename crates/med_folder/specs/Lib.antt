@@ -1,4 +1,6 @@
+pub mod Absent
 pub mod Listing
 pub mod Memory
 pub mod Place
+pub mod Snapshots
 pub mod Untold

@@ -1,7 +1,8 @@
 // What the file system refuses, counted.
-ghost use Rattle.std.specs.Prelude.{◌≡◌, ◌↔◌, IfOk, IsErrOf, IsErrAnd};
+ghost use Rattle.std.specs.Prelude.{◌≡◌, ◌↔◌, ◌⊎◌, IsTrue, IfOk, IsErrOf, IsErrAnd};
 ghost use Rattle.med_outside.specs.declared.denied.Denied.TheVariants.{Memory};
 ghost use Rattle.med_outside.specs.Causes.{HasCause};
+ghost use Rattle.med_folder.specs.Absent.{IsAbsence};
 ghost use Rattle.med_folder.specs.Memory.{IsWantOfMemory};
 
 use med_outside::Denied;
@@ -33,6 +34,8 @@ fn refusal(faults: &mut u64, error: &io::Error) -> Denied
 }
 
 /// Whether a refusal says that nothing has the path.
-pub(crate) fn is_absent(error: &io::Error) -> bool {
+pub(crate) fn is_absent(error: &io::Error) -> bool
+    ensures { IsTrue result ↔ IsAbsence error.now }
+{
     matches!(error.kind(), ErrorKind::NotFound | ErrorKind::NotADirectory)
 }

@@ -2,8 +2,8 @@
 //! and a stream.
 //!
 //! The objects meet the traits of med_outside and tell nothing of what they hold: no clause can say
-//! what a file holds. Each call asks the file system and hands the outcome to `counted`, so that
-//! every refusal has a count that rose.
+//! what a file holds. Each call that can answer `Failed` asks the file system and hands the outcome
+//! to `counted`, so that every refusal has a count that rose.
 //! Read `specs/Untold.antt`, then `src/count.rt` and `src/store.rt`.
 #![tactic(auto)]
 

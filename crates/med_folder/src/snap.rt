@@ -1,9 +1,10 @@
 // The snapshot of a node as folders.
-ghost use Rattle.std.specs.Prelude.{◌≡◌, None, true, IfOk, OnOk};
+ghost use Rattle.std.specs.Prelude.{◌≡◌, ◌++◌, None, true, IfOk, OnOk, map, string_bytes};
 ghost use Rattle.std.specs.List.{list_all};
 ghost use Rattle.med_base.specs.Prefix.{parts};
 ghost use Rattle.med_outside.specs.Snapshot.{raw_name};
 ghost use Rattle.med_folder.specs.Place.{is_name};
+ghost use Rattle.med_folder.specs.Snapshots.{table_folder, file_path, keys_for};
 
 use crate::count::{counted, is_absent};
 use crate::files::{is_plain_way, read_plain};
@@ -51,7 +52,8 @@ pub(crate) fn open_snap<R: Clone + Drop>(
     node: &str,
     tag: &str,
 ) -> io::Result<FolderSnap<R>>
-    ensures { IfOk result (λ snap. snap ≡ 0) }
+    ensures names { OnOk result (is_name tag.now ≡ true) }
+    ensures fresh { IfOk result (λ snap. snap ≡ 0) }
 {
     if !is_name(tag.as_bytes()) {
         return Err(io::Error::from(ErrorKind::InvalidFilename));
@@ -121,7 +123,10 @@ fn push_keys(
     table: &str,
     files: &Vec<String>,
     keys: &mut Vec<RawKey>,
-) -> Result<(), AllocError> {
+) -> Result<(), AllocError>
+    ensures { OnOk result (map raw_name keys.new.items ≡ map raw_name keys.old.items
+        ++ keys_for keyspace.now table.now (map string_bytes files.now.items)) }
+{
     for file in files {
         keys.push(raw_key(alloc, keyspace, table, file.as_str())?)?;
     }
@@ -152,12 +157,9 @@ fn keys_of_table<R: Files + AllocGlobal + Clone + Drop>(
 }
 
 // The folder of a table's files, below the folder of the node's data.
-fn table_folder(
-    alloc: Global,
-    keyspace: &str,
-    table: &str,
-    tag: &str,
-) -> Result<String, AllocError> {
+fn table_folder(alloc: Global, keyspace: &str, table: &str, tag: &str) -> Result<String, AllocError>
+    ensures { IfOk result (λ folder. string_bytes folder ≡ table_folder keyspace.now table.now tag.now) }
+{
     let mut folder = joined(alloc, keyspace, table)?;
     folder.push_str("/snapshots/")?;
     folder.push_str(tag)?;
@@ -203,7 +205,9 @@ fn keys_of_node<R: Files + AllocGlobal + Clone + Drop>(
 
 // The path of a file below the folder of the node's data. A table is divided before its first dot
 // into its own folder and that of an index.
-fn path_of(alloc: Global, tag: &str, key: &FileKey) -> Result<String, AllocError> {
+fn path_of(alloc: Global, tag: &str, key: &FileKey) -> Result<String, AllocError>
+    ensures { IfOk result (λ path. string_bytes path ≡ file_path tag.now key.now) }
+{
     let keyspace = key.keyspace.as_str();
     let table = key.table.as_str();
     let file = key.file.as_str();
@@ -234,7 +238,9 @@ fn read_file<R: Files>(
     node: &str,
     tag: &str,
     key: &FileKey,
-) -> io::Result<Vec<u8>> {
+) -> io::Result<Vec<u8>>
+    ensures { OnOk result (list_all is_name (parts (file_path tag.now key.now)) ≡ true) }
+{
     let data = joined(alloc, node, "data")?;
     let path = path_of(alloc, tag, key)?;
     read_below(rt, alloc, data.as_str(), path.as_str())

@@ -1,5 +1,5 @@
 // Files in memory.
-ghost use Rattle.std.specs.Prelude.{◌≡◌, ◌≤◌, ◌==◌, ◌+◌, ◌-◌, ◌^◌, [], true, false, min, map, option_map, string_bytes, IfOk, OnOk, OnErr, IsErrOf};
+ghost use Rattle.std.specs.Prelude.{◌≡◌, ◌↔◌, ◌≤◌, ◌==◌, ◌+◌, ◌-◌, ◌^◌, [], true, false, min, map, option_map, string_bytes, IfOk, OnOk, OnErr, IsErrOf};
 ghost use Rattle.std.specs.List.{list_any};
 ghost use Rattle.std.specs.Str.{bytes_eq};
 ghost use Rattle.med_outside.specs.Causes.{HasCause};
@@ -117,7 +117,7 @@ impl Files for MemFiles {
     fn read(&mut self, alloc: Global, name: &str) -> Result<Option<Vec<u8>>, Denied>
         ensures ok { IfOk result (λ file. (is_failing self.old ≡ false)
             × (option_map (λ bytes. bytes.items) file ≡ file_at name.now self.old)) }
-        ensures failed { IsErrOf result Failed → is_failing self.old ≡ true }
+        ensures failed { IsErrOf result Failed ↔ (is_failing self.old ≡ true) }
         ensures same { (self.new.files ≡ self.old.files) × (self.new.failing ≡ self.old.failing) }
         ensures counts { (self.new.calls ≡ min (self.old.calls + 1) (2 ^ 64 - 1))
             × (self.new.faults ≡ faults_after result self.old.faults) }

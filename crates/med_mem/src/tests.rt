@@ -167,44 +167,72 @@ fn read_first<P: Snap>(
     Ok((keys.len(), is_read))
 }
 
+// The keys in order.
+fn key_texts<P: Snap>(alloc: Global, snap: &mut P) -> Result<String, Denied> {
+    let mut text = String::new(alloc);
+    for key in &snap.keys(alloc)? {
+        let (keyspace, table) = (key.keyspace.as_str(), key.table.as_str());
+        let file = key.file.as_str();
+        text.push_str(format!(in alloc; "{keyspace} {table} {file};")?.as_str())?;
+    }
+    Ok(text)
+}
+
 #[derive(Clone, Copy, Debug, PartialEq, Eq)]
 struct Seen {
     keys: usize,
     does_first_count: bool,
-    schema_len: usize,
+    is_listed: bool,
+    is_schema_whole: bool,
 }
 
-fn look_at<N: Nodes>(alloc: Global, nodes: &mut N, node: &str) -> Result<Seen, Denied> {
+// Looks at the snapshot of a node, which should have these keys and this schema.
+fn look_at<N: Nodes>(
+    alloc: Global,
+    nodes: &mut N,
+    node: &str,
+    wanted: &str,
+    schema: &[u8],
+) -> Result<Seen, Denied> {
     let Ok(node) = Fqdn::read(alloc, node) else {
         return Err(Denied::Failed);
     };
     let mut snap = nodes.open(alloc, "/root", &node, "tag")?;
     let first = read_first(alloc, &mut snap, "t", b"first");
-    let schema = snap.schema(alloc);
+    let listed = key_texts(alloc, &mut snap);
+    let read = snap.schema(alloc);
     nodes.close(snap);
     let (keys, does_first_count) = first?;
     Ok(Seen {
         keys,
         does_first_count,
-        schema_len: schema?.len(),
+        is_listed: listed?.as_str() == wanted,
+        is_schema_whole: read?.as_slice() == schema,
     })
 }
 
 #[test]
 fn of_two_files_with_one_key_the_first_counts(rt: HostRuntime) -> Result<(), Fail> {
-    let mut nodes = nodes(rt.alloc()).ok().ok_or("there is memory")?;
+    let alloc = rt.alloc();
+    let mut nodes = nodes(alloc).ok().ok_or("there is memory")?;
     let want = Seen {
         keys: 2,
         does_first_count: true,
-        schema_len: 6,
+        is_listed: true,
+        is_schema_whole: true,
     };
-    assert_eq!(rt; look_at(rt.alloc(), &mut nodes, "n1"), Ok(want));
+    let listed = "k t f.db;k s f.db;";
+    assert_eq!(rt;
+        look_at(alloc, &mut nodes, "n1", listed, b"CREATE"),
+        Ok(want)
+    );
     let nothing = Seen {
         keys: 0,
         does_first_count: false,
-        schema_len: 0,
+        is_listed: true,
+        is_schema_whole: true,
     };
-    assert_eq!(rt; look_at(rt.alloc(), &mut nodes, "n2"), Ok(nothing));
+    assert_eq!(rt; look_at(alloc, &mut nodes, "n2", "", b""), Ok(nothing));
     Ok(())
 }
 
