@@ -162,6 +162,7 @@ fn folders(alloc: Global, layout: &Layout) -> Result<String, Fail> {
 #[test]
 fn every_path_that_is_built_comes_back(rt: HostRuntime) -> Result<(), Fail> {
     let alloc = rt.alloc();
+    builders_and_kinds();
     for (prefix, before) in [("", ""), ("a b/ü", "a b/ü/")] {
         let layout = Layout::new(alloc, prefix)?;
         let files = files_come_back(alloc, &layout, before)?;

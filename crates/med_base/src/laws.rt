@@ -4,7 +4,8 @@ ghost use Rattle.med_base.specs.Part.{OwnersAreTold};
 
 /// A law: each path is of exactly one kind, `kind_of` tells it, and the kind of the path that a
 /// builder gives is what it was built from. So two builders, or two values, never give one path.
-/// The kind tells the owner too: the node in whose folder the path lies, or which the entry names.
+/// The kind tells the owner too: the node in whose folder the path lies, or of which it tells as an
+/// entry of the index or of the latest backup.
 pub fn builders_and_kinds()
     ensures told { KindsAreTold }
     ensures built { BuiltIsTold }

@@ -4,6 +4,7 @@ use crate::{
     ObjPath, cut_at, decimal_in, md5_text,
 };
 use std::alloc::Global;
+use std::cmp::Ordering;
 use std::test::Fail;
 
 // What a reader says of a text: nothing, or the place of the first fault.
@@ -61,8 +62,8 @@ fn each_reader_tells_the_first_fault(rt: HostRuntime) {
     }
 }
 
-// What the three readers say of a text of so many bytes `a`.
-fn read_long(alloc: Global, length: usize, end: &str) -> Result<[Reading; 3], NoMemory> {
+// What the four readers say of so many bytes `a` with an end.
+fn read_long(alloc: Global, length: usize, end: &str) -> Result<[Reading; 4], NoMemory> {
     let mut text = String::new(alloc);
     for _ in 0..length {
         text.push('a')?;
@@ -73,6 +74,7 @@ fn read_long(alloc: Global, length: usize, end: &str) -> Result<[Reading; 3], No
         read_component(alloc, text),
         read_node(alloc, text),
         read_backup(alloc, text),
+        read_prefix(alloc, text),
     ])
 }
 
@@ -80,21 +82,18 @@ fn read_long(alloc: Global, length: usize, end: &str) -> Result<[Reading; 3], No
 fn names_end_at_200_bytes_and_components_at_255(rt: HostRuntime) {
     let alloc = rt.alloc();
     let fits = Ok(());
-    assert_eq!(rt; read_long(alloc, 200, ""), Ok([fits, fits, fits]));
-    assert_eq!(rt; read_long(alloc, 201, ""), Ok([fits, bad(200), bad(200)]));
-    assert_eq!(rt; read_long(alloc, 255, ""), Ok([fits, bad(200), bad(200)]));
-    assert_eq!(rt;
-        read_long(alloc, 256, ""),
-        Ok([bad(255), bad(200), bad(200)])
-    );
-    assert_eq!(rt;
-        read_long(alloc, 300, "/"),
-        Ok([bad(300), bad(300), bad(300)])
-    );
-    assert_eq!(rt;
-        read_long(alloc, 199, "\u{e9}"),
-        Ok([fits, bad(200), bad(200)])
-    );
+    for (length, end, component, name, prefix) in [
+        (200, "", fits, fits, fits),
+        (201, "", fits, bad(200), fits),
+        (255, "", fits, bad(200), fits),
+        (256, "", bad(255), bad(200), bad(0)),
+        (300, "/", bad(300), bad(300), bad(0)),
+        (199, "\u{e9}", fits, bad(200), fits),
+        (254, "\u{e9}", bad(255), bad(200), bad(0)),
+    ] {
+        let readings = [component, name, name, prefix];
+        assert_eq!(rt; read_long(alloc, length, end), Ok(readings), "at {length}");
+    }
 }
 
 #[test]
@@ -117,20 +116,34 @@ fn a_prefix_is_joined_components_without_a_leading_dot(rt: HostRuntime) {
     }
 }
 
-// What the reader of prefixes says of so many parts `a`.
-fn read_parts(alloc: Global, count: usize) -> Result<Reading, NoMemory> {
-    let mut text = String::new(alloc);
-    for _ in 1..count {
+// What the reader of prefixes says of a front, so many parts `a` with their slashes, and an end.
+fn read_parts(alloc: Global, front: &str, count: usize, end: &str) -> Result<Reading, NoMemory> {
+    let mut text = String::from_str(alloc, front)?;
+    for _ in 0..count {
         text.push_str("a/")?;
     }
-    text.push('a')?;
+    text.push_str(end)?;
     Ok(read_prefix(alloc, text.as_str()))
 }
 
 #[test]
 fn a_prefix_ends_at_512_bytes(rt: HostRuntime) {
-    assert_eq!(rt; read_parts(rt.alloc(), 256), Ok(Ok(())));
-    assert_eq!(rt; read_parts(rt.alloc(), 257), Ok(bad(512)));
+    for (front, count, end, reading) in [
+        ("", 255, "aa", Ok(())),
+        ("", 255, "aaa", bad(512)),
+        ("", 256, "", bad(512)),
+        ("", 256, ".a", bad(512)),
+        ("", 257, ".a", bad(512)),
+        ("", 255, ".a", bad(510)),
+        ("", 255, ".aaa", bad(510)),
+        ("a/.b/", 300, "a", bad(2)),
+    ] {
+        assert_eq!(rt;
+            read_parts(rt.alloc(), front, count, end),
+            Ok(reading),
+            "{front}, {count} and {end}"
+        );
+    }
 }
 
 fn copies(alloc: Global) -> Result<[bool; 6], Fail> {
@@ -139,11 +152,7 @@ fn copies(alloc: Global) -> Result<[bool; 6], Fail> {
     let backup = BackupName::read(alloc, "b1")?;
     let path = ObjPath::of(alloc, "n1/b1")?;
     let layout = Layout::new(alloc, "pre/fix")?;
-    let key = FileKey {
-        keyspace: Component::read(alloc, "ks")?,
-        table: Component::read(alloc, "t-1")?,
-        file: Component::read(alloc, "nb-1-big-Data.db")?,
-    };
+    let key = key_of(alloc, ["ks", "t-1", "nb-1-big-Data.db"])?;
     let own = layout.own(alloc, &node, &backup, &key)?;
     let own_of_copy = layout.copy(alloc)?.own(alloc, &node, &backup, &key)?;
     Ok([
@@ -162,15 +171,37 @@ fn a_copy_is_equal(rt: HostRuntime) -> Result<(), Fail> {
     Ok(())
 }
 
+fn key_of(alloc: Global, parts: [&str; 3]) -> Result<FileKey, Fail> {
+    let [keyspace, table, file] = parts;
+    Ok(FileKey {
+        keyspace: Component::read(alloc, keyspace)?,
+        table: Component::read(alloc, table)?,
+        file: Component::read(alloc, file)?,
+    })
+}
+
+#[test]
+fn keys_stand_in_order_of_their_parts(rt: HostRuntime) -> Result<(), Fail> {
+    for (low, high) in [
+        (["a", "z", "z"], ["b", "a", "a"]),
+        (["a", "z", "z"], ["a-1", "a", "a"]),
+        (["k", "t-1", "z"], ["k", "t-1.i", "a"]),
+        (["k", "t", "Z"], ["k", "t", "a"]),
+        (["k", "t", "z"], ["k", "t", "\u{e9}"]),
+    ] {
+        let (low, high) = (key_of(rt.alloc(), low)?, key_of(rt.alloc(), high)?);
+        assert_eq!(rt; low.cmp(&high), Ordering::Less);
+        assert_eq!(rt; high.partial_cmp(&low), Some(Ordering::Greater));
+        assert!(rt; low != high);
+    }
+    Ok(())
+}
+
 fn paths(alloc: Global, prefix: &str) -> Result<String, Fail> {
     let layout = Layout::new(alloc, prefix)?;
     let node = Fqdn::read(alloc, "n1")?;
     let backup = BackupName::read(alloc, "b1")?;
-    let key = FileKey {
-        keyspace: Component::read(alloc, "ks")?,
-        table: Component::read(alloc, "t-1")?,
-        file: Component::read(alloc, "nb-1-big-Data.db")?,
-    };
+    let key = key_of(alloc, ["ks", "t-1", "nb-1-big-Data.db"])?;
     let mut text = layout.backup_folder(alloc, &node, &backup)?;
     text.push('\n')?;
     text.push_str(layout.own(alloc, &node, &backup, &key)?.as_str())?;

@@ -119,8 +119,11 @@ pub(crate) fn bucket_of(alloc: Global, text: Option<&str>) -> Result<String, Con
     let Some(text) = text else {
         return Err(ConfigError::MissingOption { option });
     };
+    if text.as_bytes().first() == Some(&b'.') {
+        return Err(ConfigError::BadName { option });
+    }
     match Component::read(alloc, text) {
-        Ok(_) => unless_bad(alloc, text, text.as_bytes().first() == Some(&b'.'), option),
+        Ok(_) => copied(alloc, text),
         Err(NameError::BadName { .. }) => Err(ConfigError::BadName { option }),
         Err(NameError::Memory) => Err(ConfigError::Memory),
     }

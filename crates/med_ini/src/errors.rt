@@ -7,7 +7,7 @@ use std::alloc::AllocFailed;
 use std::fmt;
 use thiserror::Error;
 
-/// A fault of a text, in the order of the checks of a line behind the first.
+/// What is wrong with a text. A line has at most one of the faults behind the first.
 #[derive(Clone, Copy, Debug, PartialEq, Eq)]
 pub enum IniKind {
     /// The text isn't UTF-8. This is told before any other fault.
