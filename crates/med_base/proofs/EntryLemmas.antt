@@ -10,16 +10,10 @@ use Rattle.med_base.specs.declared.kinds.IndexKind.TheVariants.{Tokenmap, Manife
 use Rattle.med_base.specs.Entries.{behind, between, around_last, second_of, with_second, timed, entry_of}
 use Rattle.med_base.specs.Kinds.{HasSecond}
 use Rattle.med_base.specs.Layout.{entry_file}
+use Rattle.med_base.proofs.Bools.{both, same_bytes, bytes_same}
 use Rattle.med_base.proofs.Paths.{HasNoSlash}
 use Rattle.med_base.proofs.Slashes.{no_slash_by_test, no_slash-append}
 use Rattle.med_base.proofs.PieceLemmas.{behind_is, ahead_made, between_is, Lacks, around_made, around_is}
-
-pub both_so : (a b : Bool) → (a && b) ≡ true → (a ≡ true) × (b ≡ true)
-both_so true b e = (refl, e)
-both_so false b e = absurd (cc)
-
-same_bytes : (t : List ℕ) → bytes_eq t t ≡ true
-same_bytes t = (bytes_eq-Decides t t).1 refl
 
 -- ---- seconds
 
@@ -27,7 +21,7 @@ pub second_made : (n : ℕ) → n < 2 ^ 64 → second_of (decimal n) ≡ Some n
 second_made n small =
     let value : digits_value 10 (decimal n) ≡ n = (decimal_is_IsNumeral n small).1 in
     ap (λ v. cond (nat_lt v (2 ^ 64) && bytes_eq (decimal v) (decimal n)) (Some v) None) value
-    ∙ ap₂ (λ x y. cond (x && y) (Some n) None) (lt-ltb n (2 ^ 64) small) (same_bytes (decimal n))
+    ∙ ap₂ (λ x y. cond (x && y) (Some n) None) (lt-ltb n (2 ^ 64) small) (bytes_same (decimal n))
 
 pub second_is : (digits : List ℕ) (n : ℕ) → second_of digits ≡ Some n → (digits ≡ decimal n)
     × (n < 2 ^ 64)
@@ -39,10 +33,10 @@ second_is digits n e = go (nat_lt v (2 ^ 64) && bytes_eq (decimal v) digits) ref
     go : (x : Bool) → (nat_lt v (2 ^ 64) && bytes_eq (decimal v) digits) ≡ x
         → cond x (Some v) None ≡ Some n → (digits ≡ decimal n) × (n < 2 ^ 64)
     go true is k =
-        let parts = both_so (nat_lt v (2 ^ 64)) (bytes_eq (decimal v) digits) is in
+        let parts = both (nat_lt v (2 ^ 64)) (bytes_eq (decimal v) digits) is in
         let value : v ≡ n = cc in
         let small : v < 2 ^ 64 = ltb-true v (2 ^ 64) parts.0 in (
-          sym ((bytes_eq-Decides (decimal v) digits).0 parts.1) ∙ ap decimal value,
+          sym (same_bytes (decimal v) digits parts.1) ∙ ap decimal value,
           subst (λ m. m < 2 ^ 64) value small,
         )
     go false is k = absurd (cc)
@@ -52,7 +46,7 @@ pub second_read : {E : Type 0} (digits : List ℕ) (r : Result ℕ E) (n : ℕ)
     → ParsesUnsigned 64 10 digits r → r ≡ Ok n
     → bytes_eq (decimal n) digits ≡ true → n < 2 ^ 64 → second_of digits ≡ Some n
 second_read digits r n reads ok same small =
-    ap second_of (sym ((bytes_eq-Decides (decimal n) digits).0 same)) ∙ second_made n small
+    ap second_of (sym (same_bytes (decimal n) digits same)) ∙ second_made n small
 
 -- what does not
 pub second_unread : {E : Type 0} (digits : List ℕ) (r : Result ℕ E) → ParsesUnsigned 64 10 digits r

@@ -12,7 +12,8 @@ use Rattle.med_base.specs.Layout.{node_folder, meta_file}
 use Rattle.med_base.specs.Prefix.{parts}
 use Rattle.med_base.proofs.Paths.{HasNoSlash, same_parts, same_rest}
 use Rattle.med_base.proofs.Slashes.{slash_within, CutAt, whole, around, cut_at_slash, parts_whole, parts_around, pair_of_more}
-use Rattle.med_base.proofs.EntryLemmas.{both_so, then_is}
+use Rattle.med_base.proofs.Bools.{both}
+use Rattle.med_base.proofs.EntryLemmas.{then_is}
 use Rattle.med_base.proofs.MetaLemmas.{meta_of_parts, meta_is}
 use Rattle.med_base.proofs.NameLemmas.{none_by_test, backup_no_slash}
 use Rattle.med_base.proofs.KindsMade.{built_is_told, nested, shared_flat, own_flat, meta_flat}
@@ -54,8 +55,8 @@ valid_key_is keyspace p key e = go (is_component keyspace && (is_component p.0 &
         → cond b (Some (record { keyspace = keyspace; table = p.0; file = p.1 })) None ≡ Some key
         → IsKey key × (keyspace ++ 47 ∷ (p.0 ++ 47 ∷ p.1) ≡ nested key)
     go true is k =
-        let first = both_so (is_component keyspace) (is_component p.0 && is_component p.1) is in
-        let rest = both_so (is_component p.0) (is_component p.1) first.1 in
+        let first = both (is_component keyspace) (is_component p.0 && is_component p.1) is in
+        let rest = both (is_component p.0) (is_component p.1) first.1 in
         let made : FileKey = record { keyspace = keyspace; table = p.0; file = p.1 } in
         let same : made ≡ key = cc in
         let valid : IsKey made = record {

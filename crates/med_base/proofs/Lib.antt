@@ -1,11 +1,13 @@
 pub mod DecimalLemmas
 pub mod Base64Lemmas
+pub mod Bools
 pub mod Cuts
 pub mod EntryLemmas
 pub mod Folders
 pub mod KindsLaw
 pub mod KindsMade
 pub mod KindsTold
+pub mod Lists
 pub mod MetaLemmas
 pub mod NameLemmas
 pub mod Owners

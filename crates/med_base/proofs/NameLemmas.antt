@@ -2,11 +2,8 @@
 use Rattle.std.proofs.Common.{◌≡◌, ◌||◌, ℕ, Bool, true, false, List, [], codes, bytes_eq, Option, Some, None, is_none, refl}
 use Rattle.med_base.specs.Names.{first_fault, begins_with_dot}
 use Rattle.med_base.specs.Kinds.{IsFqdn, IsBackupName}
+use Rattle.med_base.proofs.Bools.{or_false}
 use Rattle.med_base.proofs.Paths.{HasNoSlash, fault_no_slash}
-
-pub or_false : (a b : Bool) → (a || b) ≡ false → (a ≡ false) × (b ≡ false)
-or_false true b e = absurd (cc)
-or_false false b e = (refl, e)
 
 not_refused : (is_refused : Bool) (limit : ℕ) (text : List ℕ)
     → first_fault is_refused limit text ≡ None → is_refused ≡ false

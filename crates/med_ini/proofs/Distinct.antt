@@ -1,7 +1,8 @@
 -- The entries of labels that fit their lines: no key stands twice in a section.
-use Rattle.std.proofs.Common.{◌≡◌, ◌∙◌, ◌||◌, ◌++◌, ◌∷◌, [], Bool, true, false, List, refl, sym, ap₂}
+use Rattle.std.proofs.Common.{◌≡◌, ◌∙◌, ◌||◌, ◌++◌, ◌∷◌, [], Bool, false, List, refl, sym, ap₂}
 use Rattle.std.proofs.lemmas.List.Folds.{list_any-append}
 use Rattle.std.specs.List.{list_any, AllByRecursion}
+use Rattle.med_base.proofs.Bools.{or_false}
 use Rattle.med_ini.specs.Document.{entries_in}
 use Rattle.med_ini.specs.Entries.{Entry, stands_twice}
 use Rattle.med_ini.specs.Labels.{Label, quiet, more, header, option, Named, Place, Reads, after, is_named, section_name}
@@ -11,10 +12,6 @@ use Rattle.med_ini.specs.Lines.{Line}
 abbrev AreNew : List Named → List Entry → Type 0
 AreNew options = AllByRecursion
     (λ (e : Entry). list_any (is_named e.section e.key) options ≡ false)
-
-or_false : (a b : Bool) → (a || b) ≡ false → (a ≡ false) × (b ≡ false)
-or_false true b e = absurd (cc)
-or_false false b e = (refl, e)
 
 neither : (a b c : Bool) → (a || (b || c)) ≡ false → (a ≡ false) × (b ≡ false)
 neither a b c e = let parts = or_false a (b || c) e in (parts.0, (or_false b c parts.1).0)

@@ -1,5 +1,6 @@
 -- A line has at most one label, and none where it has a fault, of which it has at most one.
 use Rattle.std.proofs.Common.{◌≡◌, ◌∙◌, Bool, true, false, true≢false, Option, Some, None, refl, sym, ap, ap₂}
+use Rattle.med_base.proofs.Bools.{some_once}
 use Rattle.med_ini.specs.Lines.{Line, stripped, is_empty, header_of, key_value}
 use Rattle.med_ini.specs.Labels.{Place, Label, quiet, more, header, option, Begins, Fits, IsFault, is_quiet, goes_on, is_repeated, is_taken, section_name}
 use Rattle.med_ini.specs.declared.errors.IniKind.{IniKind}
@@ -11,15 +12,12 @@ clash b holds fails = absurd (true≢false (sym holds ∙ fails))
 pub nothing : {X A : Type 0} (o : Option X) (x : X) → o ≡ Some x → o ≡ None → A
 nothing o x some none = absurd (let e : Some x ≡ None = sym some ∙ none in cc)
 
-same : {X : Type 0} (o : Option X) (x y : X) → o ≡ Some x → o ≡ Some y → x ≡ y
-same o x y e f = let g : Some x ≡ Some y = sym e ∙ f in cc
-
 same_key : (o : Option (Line × Line)) (k v j u : Line) → o ≡ Some (k, v) → o ≡ Some (j, u) → k ≡ j
-same_key o k v j u e f = ap (λ (p : Line × Line). p.0) (same o (k, v) (j, u) e f)
+same_key o k v j u e f = ap (λ (p : Line × Line). p.0) (some_once o (k, v) (j, u) e f)
 
 same_value : (o : Option (Line × Line)) (k v j u : Line) → o ≡ Some (k, v) → o ≡ Some (j, u)
     → v ≡ u
-same_value o k v j u e f = ap (λ (p : Line × Line). p.1) (same o (k, v) (j, u) e f)
+same_value o k v j u e f = ap (λ (p : Line × Line). p.1) (some_once o (k, v) (j, u) e f)
 
 -- a test of the key has one answer
 pub one_answer : {A : Type 0} (test : Line → Bool) (o : Option (Line × Line)) (k v j u : Line)
@@ -39,7 +37,7 @@ one_label p line (more s) (option k v) f g = clash (goes_on p line) f.1 g.0.begi
 one_label p line (header m) quiet f g = clash (is_quiet p line) g f.0.not_quiet
 one_label p line (header m) (more t) f g = clash (goes_on p line) g.1 f.0.not_more
 one_label p line (header m) (header n) f g =
-    ap header (same (header_of (stripped line)) m n f.1 g.1)
+    ap header (some_once (header_of (stripped line)) m n f.1 g.1)
 one_label p line (header m) (option k v) f g =
     nothing (header_of (stripped line)) m f.1 g.0.no_header
 one_label p line (option j u) quiet f g = clash (is_quiet p line) g f.0.begins.not_quiet
@@ -68,7 +66,7 @@ no_header p line n NoSection is new fault =
 no_header p line n NoDelimiter is new fault =
     nothing (header_of (stripped line)) n is fault.0.no_header
 no_header p line n DuplicateSection is new fault =
-    let name = same (header_of (stripped line)) n fault.1.0 is fault.1.1 in
+    let name = some_once (header_of (stripped line)) n fault.1.0 is fault.1.1 in
     clash (is_repeated p n) (ap (is_repeated p) name ∙ fault.1.2) new
 no_header p line n DuplicateOption is new fault =
     nothing (header_of (stripped line)) n is fault.0.no_header

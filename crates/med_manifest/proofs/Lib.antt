@@ -9,4 +9,3 @@ pub mod Refused
 pub mod Tables
 pub mod TreeLemmas
 pub mod WholeLemmas
-pub mod Zips

@@ -12,10 +12,10 @@ use Rattle.serde_json.specs.View.{items_of}
 use Rattle.med_base.specs.declared.key.FileKey.{FileKey}
 use Rattle.med_base.specs.Digest.{SpellsMd5}
 use Rattle.med_base.specs.Key.{key_cmp, key_eq, AreRising, IsKey}
+use Rattle.med_json.proofs.TreeLemmas.{items_in-of}
 use Rattle.med_manifest.specs.declared.manifest.FileRecord.{FileRecord}
 use Rattle.med_manifest.specs.Manifest.{IsPathOf, IsRecordOf, IsManifest}
 use Rattle.med_manifest.specs.Named.{Named, IsFile, IsTable, NamesFiles}
-use Rattle.med_manifest.specs.Tree.{items_in}
 use Rattle.med_manifest.specs.Written.{HaveDigests, Table, tables, with_file, is_same_table, file_data, table_data, manifest_data}
 use Rattle.med_manifest.proofs.Tables.{same_names}
 
@@ -38,11 +38,6 @@ pub record IsAt (keyspace table : List ℕ) (r : FileRecord) : Type 0 where
 pub record IsOneTable (t : Table) : Type 0 where
   pub first_is : IsKey t.first.key
   pub files_are : AllByRecursion (IsAt t.first.key.keyspace t.first.key.table) t.files
-
--- a tree's list of items is read as it was made
-pub same_items : (ds : List Data) → items_in (items_of ds) ≡ ds
-same_items [] = refl
-same_items (d ∷ ds) = ap (λ (es : List Data). d ∷ es) (same_items ds)
 
 -- a record's object is that file
 file_is : (keyspace table : List ℕ) (r : FileRecord) → IsAt keyspace table r
@@ -71,11 +66,9 @@ table_is t one = record {
   table_is = refl;
   keyspace_fits = one.first_is.keyspace;
   table_fits = one.first_is.table;
-  objects = items_of (map file_data t.files);
-  objects_are = refl;
-  files_are =
-      rw (same_items (map file_data t.files))
-      (files_zip t.first.key.keyspace t.first.key.table t.files one.files_are);
+  objects = map file_data t.files;
+  objects_are = ap (λ (ds : List Data). Some ds) (items_in-of (map file_data t.files));
+  files_are = files_zip t.first.key.keyspace t.first.key.table t.files one.files_are;
 }
 
 tables_zip : (ts : List Table) → AllByRecursion IsOneTable ts
@@ -157,7 +150,7 @@ names_files text files utf8 reads keys = record {
     tables = record {
       tables = map (λ (t : Table). map named_of t.files) (tables files);
       tables_are =
-          rw (same_items (map table_data (tables files)))
+          rw (items_in-of (map table_data (tables files)))
           (tables_zip (tables files) (each_is_one files keys));
       files_are = ap (map named_of) (sym (same_files files)) ∙ sym (same_named (tables files));
     };

@@ -1,19 +1,18 @@
 -- One text is the manifest of one list of files at most.
-use Rattle.std.proofs.Common.{◌≡◌, ◌∙◌, ℕ, List, [], ◌∷◌, ◌++◌, Option, Some, flat_map, codes, inl, inr, refl, sym, ap, subst, append_assoc}
+use Rattle.std.proofs.Common.{◌≡◌, ◌∙◌, ℕ, List, [], ◌∷◌, ◌++◌, flat_map, codes, inl, inr, refl, sym, ap, subst, append_assoc}
 use Rattle.std.specs.List.{AllZip}
 use Rattle.serde_json.specs.Data.{Data, Items}
 use Rattle.serde_json.specs.Find.{as_array}
 use Rattle.med_base.specs.declared.key.FileKey.{FileKey}
+use Rattle.med_base.proofs.Bools.{some_once}
+use Rattle.med_base.proofs.Lists.{zip_once}
 use Rattle.med_base.proofs.Paths.{HasNoSlash, component_no_slash}
+use Rattle.med_json.specs.Tree.{items_in, text_at, number_at, list_at}
+use Rattle.med_json.proofs.TreeLemmas.{tree_once}
 use Rattle.med_manifest.specs.declared.manifest.FileRecord.{FileRecord}
 use Rattle.med_manifest.specs.Manifest.{IsPathOf, IsKeyOf, IsRecordOf, ManifestsAreOne}
-use Rattle.med_manifest.specs.Named.{Named, IsFile, IsTable, AreTables, IsText, HasFiles, NamesFiles}
-use Rattle.med_manifest.specs.Tree.{items_in, text_at, number_at, list_at}
+use Rattle.med_manifest.specs.Named.{Named, IsFile, IsTable, AreTables, HasFiles, NamesFiles}
 use Rattle.med_manifest.proofs.Digests.{digest_once}
-use Rattle.med_manifest.proofs.Zips.{zip_once}
-
-some_once : {X : Type 0} (o : Option X) (x y : X) → o ≡ Some x → o ≡ Some y → x ≡ y
-some_once o x y e g = cc (sym e ∙ g)
 
 file_once : (keyspace table : List ℕ) (d : Data) (a b : Named) → IsFile keyspace table d a
     → IsFile keyspace table d b → a ≡ b
@@ -39,21 +38,17 @@ table_once d a b p q =
     p.table_is in
     let lists = some_once (list_at (codes "objects") d) q.objects p.objects q.objects_are
     p.objects_are in
-    let other : AllZip (IsFile p.keyspace p.table) (items_in p.objects) b =
-    subst (λ (ks : List ℕ). AllZip (IsFile ks p.table) (items_in p.objects) b) keyspaces
-    (subst (λ (t : List ℕ). AllZip (IsFile q.keyspace t) (items_in p.objects) b) tables
-    (subst (λ (items : Items). AllZip (IsFile q.keyspace q.table) (items_in items) b) lists
-    q.files_are)) in
-    zip_once (IsFile p.keyspace p.table) (file_once p.keyspace p.table) (items_in p.objects) a b
-    p.files_are other
+    let other : AllZip (IsFile p.keyspace p.table) p.objects b =
+    subst (λ (ks : List ℕ). AllZip (IsFile ks p.table) p.objects b) keyspaces
+    (subst (λ (t : List ℕ). AllZip (IsFile q.keyspace t) p.objects b) tables
+    (subst (λ (ds : List Data). AllZip (IsFile q.keyspace q.table) ds b) lists q.files_are)) in
+    zip_once (IsFile p.keyspace p.table) (file_once p.keyspace p.table) p.objects a b p.files_are
+    other
 
 tables_once : (ds : List Data) (a b : List Named) → AreTables ds a → AreTables ds b → a ≡ b
 tables_once ds a b p q =
     let same = zip_once IsTable table_once ds p.tables q.tables p.tables_are q.tables_are in
     p.files_are ∙ ap (flat_map (λ (table : List Named). table)) same ∙ sym q.files_are
-
-pub tree_once : (bytes : List ℕ) (a b : Data) → IsText bytes a → IsText bytes b → a ≡ b
-tree_once bytes a b p q = cc (sym p.reads ∙ q.reads)
 
 pub named_once : (bytes : List ℕ) (a b : List Named) → NamesFiles bytes a → NamesFiles bytes b
     → a ≡ b

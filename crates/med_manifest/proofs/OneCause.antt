@@ -1,19 +1,17 @@
 -- Bytes are refused for one cause at most.
 use Rattle.std.proofs.Common.{◌≡◌, ◌∙◌, ◌⊎◌, inl, inr, ℕ, suc, List, [], ◌∷◌, ◌++◌, length, Some, None, refl, sym, ap, subst}
 use Rattle.std.specs.List.{AllZip, AllByRecursion}
-use Rattle.std.specs.Str.{IsUtf8}
 use Rattle.serde_json.specs.Data.{Data, Items}
-use Rattle.serde_json.specs.Find.{as_array}
-use Rattle.serde_json.specs.Read.{read}
+use Rattle.med_json.specs.Tree.{IsText, items_in}
+use Rattle.med_json.proofs.TreeLemmas.{tree_once, no_text}
 use Rattle.med_manifest.specs.declared.manifest.FileRecord.{FileRecord}
 use Rattle.med_manifest.specs.declared.why.ManifestError.TheVariants.{Why}
 use Rattle.med_manifest.specs.declared.why.ManifestWhy.{ManifestWhy}
 use Rattle.med_manifest.specs.declared.why.ManifestWhy.TheVariants.{NotJson, NotManifest, BadDigest, ForeignPath, DuplicatePath}
-use Rattle.med_manifest.specs.Manifest.{IsRecordOf, AreRecords}
-use Rattle.med_manifest.specs.Named.{Named, IsShaped, IsFirstUnshaped, IsText, HasFiles, NamesFiles}
+use Rattle.med_manifest.specs.Manifest.{IsRecordOf}
+use Rattle.med_manifest.specs.Named.{Named, IsShaped, IsFirstUnshaped, HasFiles, NamesFiles}
 use Rattle.med_manifest.specs.Refusals.{IsUnshapedAt, no_list, no_table, HasFault, IsFirstFault, NamesFault, CausesAreOne, RefusedAreNone}
-use Rattle.med_manifest.specs.Tree.{items_in}
-use Rattle.med_manifest.proofs.Once.{tree_once, named_once, records_once}
+use Rattle.med_manifest.proofs.Once.{named_once, records_once}
 use Rattle.med_manifest.proofs.Refused.{no_records, not_shaped, refused}
 
 pub refused_none : RefusedAreNone
@@ -157,11 +155,6 @@ module _ (before f n : List ℕ) where
       (sym p.first.files_are ∙ other.files_are))
 
 -- ---- causes of several kinds
-
--- JSON and no JSON
-no_text : (bytes : List ℕ) (tree : Data) → (IsUtf8 bytes → read bytes ≡ None)
-    → IsText bytes tree → ⊥
-no_text bytes tree none text = cc (sym text.reads ∙ none text.utf8)
 
 -- tables and no tables
 no_tables : (bytes : List ℕ) (at : ℕ) (tree : Data) (files : List Named) → IsText bytes tree

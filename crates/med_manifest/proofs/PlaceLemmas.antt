@@ -1,29 +1,17 @@
 -- The key of a named file is told by the kind of its path.
-use Rattle.std.proofs.Common.{◌≡◌, ◌∙◌, ◌&&◌, ℕ, Bool, true, false, List, Some, None, inl, inr, refl, sym, ap, subst}
+use Rattle.std.proofs.Common.{◌≡◌, ◌∙◌, ℕ, Bool, true, false, List, Some, None, inl, inr, refl, sym, ap, subst}
 use Rattle.std.specs.Prelude.{if◌then◌else◌}
-use Rattle.std.specs.Str.{bytes_eq}
-use Rattle.std.proofs.lemmas.Slice.Eq.{slice_eq-Decides}
-use Rattle.std.proofs.lemmas.Bool.Decides.{Decides-eqb}
 use Rattle.med_base.specs.declared.key.FileKey.{FileKey}
 use Rattle.med_base.specs.Classify.{kind_of}
 use Rattle.med_base.specs.Key.{IsKey}
 use Rattle.med_base.specs.KindOf.{IsOfKind}
 use Rattle.med_base.specs.Kinds.{Kind, Shared, Own, Meta, Entry, Latest, Stray, Other, IsFqdn, IsBackupName, IsBuilt}
 use Rattle.med_base.specs.Layout.{shared_path, own_path}
+use Rattle.med_base.proofs.Bools.{both, same_bytes, bytes_same}
 use Rattle.med_base.proofs.KindsMade.{built_is_told}
 use Rattle.med_manifest.specs.Manifest.{IsPathOf, IsKeyOf}
 use Rattle.med_manifest.specs.Named.{Named}
 use Rattle.med_manifest.specs.Places.{is_of_table, file_told, key_told}
-
-bytes_from : (a b : List ℕ) → bytes_eq a b ≡ true → a ≡ b
-bytes_from a b = (slice_eq-Decides Decides-eqb a b (bytes_eq a b) refl).0
-
-bytes_same : (a : List ℕ) → bytes_eq a a ≡ true
-bytes_same a = (slice_eq-Decides Decides-eqb a a (bytes_eq a a) refl).1 refl
-
-both : (a b : Bool) → (a && b) ≡ true → (a ≡ true) × (b ≡ true)
-both true b e = (refl, e)
-both false b e = absurd (cc)
 
 some_from : {X : Type 0} (b : Bool) (x y : X) → (if b then Some x else None) ≡ Some y
     → (b ≡ true) × (x ≡ y)
@@ -35,8 +23,8 @@ key_is : (file : Named) (key : FileKey) → is_of_table file key ≡ true
     → key ≡ key_told file key.file
 key_is file key e =
     let parts = both _ _ e in
-    let keyspace = bytes_from key.keyspace file.keyspace parts.0 in
-    let table = bytes_from key.table file.table parts.1 in
+    let keyspace = same_bytes key.keyspace file.keyspace parts.0 in
+    let table = same_bytes key.table file.table parts.1 in
     λ i. record { keyspace = keyspace i; table = table i; file = key.file }
 
 key_at : (before f n : List ℕ) (file : Named) (key : FileKey) (text : List ℕ)
@@ -58,7 +46,7 @@ pub told_is : (before f n : List ℕ) (file : Named) (kind : Kind) (text : List 
 told_is before f n file (Shared owner key) text is e =
     let found = some_from _ key.file text e in
     let tests = both _ _ found.0 in
-    let owner_is = bytes_from owner f tests.0 in
+    let owner_is = same_bytes owner f tests.0 in
     let path : file.path ≡ shared_path before owner key = cc (sym is.built) in
     key_at before f n file key text tests.1 found.1 is.valid.1
     (inl (path ∙ ap (λ (o : List ℕ). shared_path before o key) owner_is))
@@ -66,8 +54,8 @@ told_is before f n file (Own owner backup key) text is e =
     let found = some_from _ key.file text e in
     let tests = both _ _ found.0 in
     let more = both _ _ tests.1 in
-    let owner_is = bytes_from owner f tests.0 in
-    let backup_is = bytes_from backup n more.0 in
+    let owner_is = same_bytes owner f tests.0 in
+    let backup_is = same_bytes backup n more.0 in
     let path : file.path ≡ own_path before owner backup key = cc (sym is.built) in
     key_at before f n file key text more.1 found.1 is.valid.2
     (inr (path ∙ ap (λ (o : List ℕ). own_path before o backup key) owner_is

@@ -13,6 +13,7 @@ use Rattle.std.specs.declared.cmp.Ordering.TheVariants.{Less, Equal, Greater}
 use Rattle.med_base.specs.declared.key.FileKey.{FileKey}
 use Rattle.med_base.specs.Key.{key_cmp, key_eq}
 use Rattle.med_base.specs.KeyOrder.{key_total, key_exact}
+use Rattle.med_base.proofs.Lists.{zip_next, length_zip, map_around, length_front}
 use Rattle.med_manifest.specs.declared.manifest.FileRecord.{FileRecord}
 use Rattle.med_manifest.specs.declared.shape.NamedFile.{NamedFile}
 use Rattle.med_manifest.specs.declared.why.ManifestError.{ManifestError}
@@ -22,7 +23,6 @@ use Rattle.med_manifest.specs.Manifest.{IsRecordOf, AreRecords}
 use Rattle.med_manifest.specs.Named.{named}
 use Rattle.med_manifest.specs.Refusals.{BlamesFile, BlamesFiles, IsFirstFault}
 use Rattle.med_manifest.specs.Seen.{BlamesSeen}
-use Rattle.med_manifest.proofs.Zips.{zip_next, length_zip, map_around, length_front}
 
 pub none_distinct : IsDistinct key_eq []
 unfolding IsDistinct

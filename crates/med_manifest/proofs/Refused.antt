@@ -8,6 +8,12 @@ use Rattle.serde_json.specs.Data.{Data, Items}
 use Rattle.med_base.specs.declared.key.FileKey.{FileKey}
 use Rattle.med_base.specs.Key.{key_eq}
 use Rattle.med_base.specs.KeyOrder.{key_total}
+use Rattle.med_base.proofs.Lists.{IsCut, zip_cut}
+use Rattle.med_json.specs.declared.read.JsonError.{JsonError}
+use Rattle.med_json.specs.declared.read.JsonError.TheVariants as cause
+use Rattle.med_json.specs.Blames.{BlamesText}
+use Rattle.med_json.specs.Tree.{items_in}
+use Rattle.med_json.proofs.TreeLemmas.{tree_once, no_text}
 use Rattle.med_manifest.specs.declared.manifest.FileRecord.{FileRecord}
 use Rattle.med_manifest.specs.declared.why.ManifestError.{ManifestError}
 use Rattle.med_manifest.specs.declared.why.ManifestError.TheVariants.{Why, Memory}
@@ -15,11 +21,9 @@ use Rattle.med_manifest.specs.declared.why.ManifestWhy.{ManifestWhy}
 use Rattle.med_manifest.specs.declared.why.ManifestWhy.TheVariants.{NotJson, NotManifest, BadDigest, ForeignPath, DuplicatePath}
 use Rattle.med_manifest.specs.Manifest.{IsRecordOf, AreRecords, IsManifest}
 use Rattle.med_manifest.specs.Named.{Named, IsTable, AreTables, HasFiles, NamesFiles}
-use Rattle.med_manifest.specs.Refusals.{IsUnshapedAt, no_list, no_table, HasFault, IsFirstFault, NamesFault, BlamesFiles, BlamesManifest, RefusesManifest}
-use Rattle.med_manifest.specs.Tree.{items_in}
-use Rattle.med_manifest.proofs.Once.{tree_once, named_once, record_once, records_once}
+use Rattle.med_manifest.specs.Refusals.{IsUnshapedAt, no_list, no_table, HasFault, IsFirstFault, NamesFault, BlamesFiles, BlamesManifest, RefusesManifest, of_json}
+use Rattle.med_manifest.proofs.Once.{named_once, record_once, records_once}
 use Rattle.med_manifest.proofs.RecordLemmas.{keys_of}
-use Rattle.med_manifest.proofs.Zips.{IsCut, zip_cut}
 
 -- a key behind others from which it is distinct is none of them
 not_before : (xs : List FileKey) (k : FileKey) (ys : List FileKey)
@@ -93,9 +97,7 @@ pub refused : (before f n bytes : List ℕ) (e : ManifestError) → BlamesManife
     → RefusesManifest before f n bytes e
 refused before f n bytes Memory blames = tt
 refused before f n bytes (Why NotJson) blames = λ files is.
-    let bad : None ≡ Some is.names.tree =
-    sym (blames is.names.text.utf8) ∙ is.names.text.reads in
-    cc bad
+    no_text bytes is.names.tree blames is.names.text
 refused before f n bytes (Why (NotManifest at)) blames = λ files is.
     let same = tree_once bytes is.names.tree blames.0 is.names.text blames.1 in
     not_shaped blames.0 at is.named blames.2
@@ -106,6 +108,12 @@ refused before f n bytes (Why (ForeignPath path)) blames = λ files is.
     named_fault before f n bytes (ForeignPath path) files blames is
 refused before f n bytes (Why (DuplicatePath path)) blames = λ files is.
     named_fault before f n bytes (DuplicatePath path) files blames is
+
+-- an error over a text is one over the manifest
+pub text_blamed : (before f n bytes : List ℕ) (e : JsonError) → BlamesText bytes e
+    → BlamesManifest before f n bytes (of_json e)
+text_blamed before f n bytes cause.NotJson blames = blames
+text_blamed before f n bytes cause.Memory blames = tt
 
 -- an error over named files is one over their text
 pub named_blamed : (before f n bytes : List ℕ) (files : List Named) (e : ManifestError)

@@ -5,25 +5,17 @@ use Rattle.std.proofs.Math.Seq.{take-length}
 use Rattle.std.specs.List.{prefix_len}
 use Rattle.std.proofs.lemmas.List.{take_more}
 use Rattle.std.specs.Str.{bytes_eq}
-use Rattle.std.proofs.lemmas.Slice.Eq.{slice_eq-Decides}
-use Rattle.std.proofs.lemmas.Bool.Decides.{Decides-eqb}
 use Rattle.serde_json.specs.Data.{Data}
+use Rattle.med_base.proofs.Bools.{both, same_bytes}
 use Rattle.med_manifest.specs.declared.manifest.FileRecord.{FileRecord}
 use Rattle.med_manifest.specs.Written.{IsDigest, HaveDigests, Table, tables, with_file, is_same_table, table_data}
-
-both : (a b : Bool) → (a && b) ≡ true → (a ≡ true) × (b ≡ true)
-both true b e = (refl, e)
-both false b e = absurd (cc)
-
-bytes_from : (a b : List ℕ) → bytes_eq a b ≡ true → a ≡ b
-bytes_from a b = (slice_eq-Decides Decides-eqb a b (bytes_eq a b) refl).0
 
 -- two files of one table have its names
 pub same_names : (f g : FileRecord) → is_same_table f g ≡ true
     → (f.key.keyspace ≡ g.key.keyspace) × (f.key.table ≡ g.key.table)
 same_names f g e =
     let parts = both _ _ e in
-    (bytes_from f.key.keyspace g.key.keyspace parts.0, bytes_from f.key.table g.key.table parts.1)
+    (same_bytes f.key.keyspace g.key.keyspace parts.0, same_bytes f.key.table g.key.table parts.1)
 
 -- whether the file is of the table with this keyspace and name
 is_of : List ℕ → List ℕ → FileRecord → Bool

@@ -8,18 +8,14 @@ use Rattle.serde_json.specs.Find.{as_array}
 use Rattle.serde_json.specs.declared.value.Value.{Value}
 use Rattle.serde_json.specs.View.{view, items_view}
 use Rattle.med_base.specs.Names.{component_fault}
+use Rattle.med_base.proofs.Lists.{zip_next, each_has, map_around, length_front}
+use Rattle.med_json.specs.Tree.{IsText, text_at, list_at}
+use Rattle.med_json.proofs.TreeLemmas.{items_in-view}
 use Rattle.med_manifest.specs.declared.why.ManifestError.{ManifestError}
 use Rattle.med_manifest.specs.declared.why.ManifestError.TheVariants.{Why, Memory}
 use Rattle.med_manifest.specs.declared.why.ManifestWhy.TheVariants.{NotJson, NotManifest, BadDigest, ForeignPath, DuplicatePath}
-use Rattle.med_manifest.specs.Named.{Named, IsFile, IsTable, AreTables, IsFirstUnshaped, IsText, HasFiles}
+use Rattle.med_manifest.specs.Named.{Named, IsFile, IsTable, AreTables, IsFirstUnshaped, HasFiles}
 use Rattle.med_manifest.specs.Refusals.{BlamesTables, BlamesManifest, no_table}
-use Rattle.med_manifest.specs.Tree.{items_in, text_at, list_at}
-use Rattle.med_manifest.proofs.Zips.{zip_next, each_has, map_around, length_front}
-
--- the items of a value are those of its list
-pub same_values : (vs : List Value) → items_in (items_view vs) ≡ map view vs
-same_values [] = refl
-same_values (v ∷ vs) = ap (λ (ds : List Data). view v ∷ ds) (same_values vs)
 
 joined : List (List Named) → List Named
 joined tables = flat_map (λ (table : List Named). table) tables
@@ -75,7 +71,7 @@ component_from text b e g = none_from (component_fault text) (sym g ∙ e)
 pub table_is : (d : Data) (keyspace table : List ℕ) (list : List Value) (files : List Named)
     → text_at (codes "keyspace") d ≡ Some keyspace
     → text_at (codes "columnfamily") d ≡ Some table → component_fault keyspace ≡ None
-    → component_fault table ≡ None → list_at (codes "objects") d ≡ Some (items_view list)
+    → component_fault table ≡ None → list_at (codes "objects") d ≡ Some (map view list)
     → AllZip (IsFile keyspace table) (map view list) files → IsTable d files
 table_is d keyspace table list files keyspace_is named_so keyspace_fits table_fits objects zip =
     record {
@@ -85,24 +81,21 @@ table_is d keyspace table list files keyspace_is named_so keyspace_fits table_fi
       table_is = named_so;
       keyspace_fits = keyspace_fits;
       table_fits = table_fits;
-      objects = items_view list;
+      objects = map view list;
       objects_are = objects;
-      files_are =
-          subst (λ (ds : List Data). AllZip (IsFile keyspace table) ds files)
-          (sym (same_values list)) zip;
+      files_are = zip;
     }
 
 -- the files of a table are those of its list
 pub in_list : (d : Data) (keyspace table : List ℕ) (list : List Value) (files : List Named)
     → text_at (codes "keyspace") d ≡ Some keyspace
     → text_at (codes "columnfamily") d ≡ Some table
-    → list_at (codes "objects") d ≡ Some (items_view list) → IsTable d files
+    → list_at (codes "objects") d ≡ Some (map view list) → IsTable d files
     → AllZip (IsFile keyspace table) (map view list) files
 in_list d keyspace table list files keyspace_is named_so objects is =
     let same_keyspace : is.keyspace ≡ keyspace = cc (sym is.keyspace_is ∙ keyspace_is) in
     let same_table : is.table ≡ table = cc (sym is.table_is ∙ named_so) in
-    let same_objects : is.objects ≡ items_view list = cc (sym is.objects_are ∙ objects) in
-    let items : items_in is.objects ≡ map view list = ap items_in same_objects ∙ same_values list in
+    let items : is.objects ≡ map view list = cc (sym is.objects_are ∙ objects) in
     subst (λ (k : List ℕ). AllZip (IsFile k table) (map view list) files) same_keyspace
     (subst (λ (t : List ℕ). AllZip (IsFile is.keyspace t) (map view list) files) same_table
     (subst (λ (ds : List Data). AllZip (IsFile is.keyspace is.table) ds files) items is.files_are))
@@ -114,7 +107,7 @@ pub has_files : (d : Data) (list : List Value) (files : List Named)
 has_files d list files is tables = record {
   list = items_view list;
   list_is = is;
-  tables = subst (λ (ds : List Data). AreTables ds files) (sym (same_values list)) tables;
+  tables = subst (λ (ds : List Data). AreTables ds files) (sym (items_in-view list)) tables;
 }
 
 pub unshaped : (d : Data) (list : List Value) (e : ManifestError)
@@ -123,7 +116,7 @@ pub unshaped : (d : Data) (list : List Value) (e : ManifestError)
 unshaped d list Memory is blames before f n bytes text = tt
 unshaped d list (Why NotJson) is blames before f n bytes text = absurd blames
 unshaped d list (Why (NotManifest at)) is blames before f n bytes text =
-    let first = subst (λ (ds : List Data). IsFirstUnshaped ds at) (sym (same_values list)) blames in
+    let first = subst (λ (ds : List Data). IsFirstUnshaped ds at) (sym (items_in-view list)) blames in
     (d, text, no_table (items_view list) is first)
 unshaped d list (Why (BadDigest at)) is blames before f n bytes text = absurd blames
 unshaped d list (Why (ForeignPath path)) is blames before f n bytes text = absurd blames

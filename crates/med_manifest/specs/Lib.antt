@@ -3,7 +3,6 @@ pub mod Named
 pub mod Places
 pub mod Refusals
 pub mod Seen
-pub mod Tree
 pub mod Vault
 pub mod Whole
 pub mod Written

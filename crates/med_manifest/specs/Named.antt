@@ -3,13 +3,11 @@
 -- on the JSON tree: other keys may stand beside those named, in any order.
 use Rattle.std.specs.Prelude.{◌≡◌, ◌++◌, ◌∷◌, ℕ, List, flat_map, length, Some, None, codes}
 use Rattle.std.specs.List.{AllByRecursion, AllZip}
-use Rattle.std.specs.Str.{IsUtf8}
 use Rattle.serde_json.specs.Data.{Data, Items}
 use Rattle.serde_json.specs.Find.{as_array}
-use Rattle.serde_json.specs.Read.{read}
 use Rattle.med_base.specs.Names.{component_fault}
+use Rattle.med_json.specs.Tree.{IsText, items_in, text_at, number_at, list_at}
 use Rattle.med_manifest.specs.declared.shape.NamedFile.{NamedFile}
-use Rattle.med_manifest.specs.Tree.{items_in, text_at, number_at, list_at}
 
 -- a file as the text has it: the names of its table, its path, its size and the text of its MD5
 pub record Named : Type 0 where
@@ -45,9 +43,9 @@ pub record IsTable (d : Data) (files : List Named) : Type 0 where
   pub table_is : text_at (codes "columnfamily") d ≡ Some table
   pub keyspace_fits : component_fault keyspace ≡ None
   pub table_fits : component_fault table ≡ None
-  pub objects : Items
+  pub objects : List Data
   pub objects_are : list_at (codes "objects") d ≡ Some objects
-  pub files_are : AllZip (IsFile keyspace table) (items_in objects) files
+  pub files_are : AllZip (IsFile keyspace table) objects files
 
 -- an object of the tree is a table
 abbrev pub IsShaped : Data → Type 0
@@ -68,11 +66,6 @@ pub record IsFirstUnshaped (ds : List Data) (at : ℕ) : Type 0 where
   pub at_is : at ≡ length good
   pub tables_before : AllByRecursion IsShaped good
   pub no_table : IsShaped bad → ⊥
-
--- the bytes are a JSON text of this tree
-pub record IsText (bytes : List ℕ) (tree : Data) : Type 0 where
-  pub utf8 : IsUtf8 bytes
-  pub reads : read bytes ≡ Some tree
 
 -- the tree is a list of tables with these files
 pub record HasFiles (tree : Data) (files : List Named) : Type 0 where

@@ -2,20 +2,20 @@
 -- This project's own order: the text, the tables, and then the files one after another.
 use Rattle.std.specs.Prelude.{◌≡◌, ◌++◌, ◌∷◌, ℕ, List, map, length, Some, None}
 use Rattle.std.specs.List.{Contains}
-use Rattle.std.specs.Str.{IsUtf8}
 use Rattle.serde_json.specs.Data.{Data, Items}
 use Rattle.serde_json.specs.Find.{as_array}
-use Rattle.serde_json.specs.Read.{read}
 use Rattle.med_base.specs.declared.key.FileKey.{FileKey}
 use Rattle.med_base.specs.Digest.{SpellsMd5}
+use Rattle.med_json.specs.declared.read.JsonError.{JsonError}
+use Rattle.med_json.specs.declared.read.JsonError.TheVariants as cause
+use Rattle.med_json.specs.Tree.{IsText, IsNoText, items_in}
 use Rattle.med_manifest.specs.declared.manifest.FileRecord.{FileRecord}
 use Rattle.med_manifest.specs.declared.why.ManifestError.{ManifestError}
 use Rattle.med_manifest.specs.declared.why.ManifestError.TheVariants.{Why, Memory}
 use Rattle.med_manifest.specs.declared.why.ManifestWhy.{ManifestWhy}
 use Rattle.med_manifest.specs.declared.why.ManifestWhy.TheVariants.{NotJson, NotManifest, BadDigest, ForeignPath, DuplicatePath}
 use Rattle.med_manifest.specs.Manifest.{IsKeyOf, IsRecordOf, AreRecords, IsManifest}
-use Rattle.med_manifest.specs.Named.{Named, IsText, IsFirstUnshaped, NamesFiles}
-use Rattle.med_manifest.specs.Tree.{items_in}
+use Rattle.med_manifest.specs.Named.{Named, IsFirstUnshaped, NamesFiles}
 
 -- the tree is no list, and the place is 0, or this is the place of its first item that is no table
 pub data IsUnshapedAt (tree : Data) (at : ℕ) : Type 0 where
@@ -87,12 +87,17 @@ pub record NamesFault (before f n bytes : List ℕ) (why : ManifestWhy) : Type 0
 
 -- why the bytes are not the manifest of the backup n of the node f
 abbrev pub IsRefused : List ℕ → List ℕ → List ℕ → List ℕ → ManifestWhy → Type 0
-IsRefused before f n bytes NotJson = IsUtf8 bytes → read bytes ≡ None
+IsRefused before f n bytes NotJson = IsNoText bytes
 IsRefused before f n bytes (NotManifest at) =
     (tree : Data) × IsText bytes tree × IsUnshapedAt tree at
 IsRefused before f n bytes (BadDigest at) = NamesFault before f n bytes (BadDigest at)
 IsRefused before f n bytes (ForeignPath path) = NamesFault before f n bytes (ForeignPath path)
 IsRefused before f n bytes (DuplicatePath path) = NamesFault before f n bytes (DuplicatePath path)
+
+-- the error that an error of JSON is
+abbrev pub of_json : JsonError → ManifestError
+of_json cause.NotJson = Why NotJson
+of_json cause.Memory = Memory
 
 -- an error of the reader is right; want of memory may come over any bytes
 abbrev pub BlamesManifest : List ℕ → List ℕ → List ℕ → List ℕ → ManifestError → Type 0

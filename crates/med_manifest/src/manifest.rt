@@ -11,9 +11,10 @@ ghost use Rattle.med_manifest.specs.Refusals.{BlamesManifest, RefusesManifest};
 
 use crate::ManifestError;
 use crate::records::records_of;
-use crate::shape::{named_files, value_of};
+use crate::shape::named_files;
 use crate::written::manifest_value;
 use med_base::{BackupName, FileKey, Fingerprint, Fqdn, Layout, NoMemory, ObjPath};
+use med_json::read_value;
 use std::alloc::Global;
 
 /// A file of a backup: its key in the snapshot, the path of the object that holds it, and the size
@@ -73,7 +74,7 @@ impl Manifest {
         ensures err { IfErr result (BlamesManifest layout.now node.now name.now bytes.now) }
         ensures refused { IfErr result (RefusesManifest layout.now node.now name.now bytes.now) }
     {
-        let value = value_of(alloc, bytes)?;
+        let value = read_value(alloc, bytes)?;
         let named = named_files(alloc, &value)?;
         let files = records_of(alloc, layout, node, name, named.as_slice())?;
         Ok(Manifest { files })

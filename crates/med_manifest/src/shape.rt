@@ -1,17 +1,16 @@
 // The files that the text of a manifest names.
-ghost use Rattle.std.specs.Prelude.{◌≡◌, IfOk, IfErr, IfSome, List, ℕ, map, None, option_map, is_none};
+ghost use Rattle.std.specs.Prelude.{◌≡◌, IfOk, IfErr, IfSome, List, ℕ, map, None, is_none};
 ghost use Rattle.std.specs.List.{AllZip};
-ghost use Rattle.serde_json.specs.Data.{Data};
-ghost use Rattle.serde_json.specs.View.{view, items_view};
+ghost use Rattle.serde_json.specs.View.{view};
 ghost use Rattle.med_base.specs.Names.{component_fault};
-ghost use Rattle.med_manifest.specs.Named.{Named, named, IsFile, IsTable, IsText, AreTables, HasFiles, IsFirstUnshaped};
+ghost use Rattle.med_json.specs.Tree.{IsText};
+ghost use Rattle.med_manifest.specs.Named.{Named, named, IsFile, IsTable, AreTables, HasFiles};
 ghost use Rattle.med_manifest.specs.Refusals.{BlamesManifest, BlamesTables};
-ghost use Rattle.med_manifest.specs.Tree.{text_at, number_at, list_at};
 
 use crate::{ManifestError, ManifestWhy};
 use med_base::{Component, NameError, NoMemory};
+use med_json::{list_in, number_in, text_in};
 use serde_json::Value;
-use serde_json::error::Category;
 use std::alloc::Global;
 
 /// A file as the text names it.
@@ -22,39 +21,6 @@ pub(crate) struct NamedFile<'a> {
     pub(crate) path: &'a str,
     pub(crate) size: u64,
     pub(crate) md5: &'a str,
-}
-
-/// The value whose text these bytes are.
-pub(crate) fn value_of(alloc: Global, bytes: &[u8]) -> Result<Value, ManifestError>
-    ensures ok { IfOk result (λ value. IsText bytes.now (view value)) }
-    ensures err { IfErr result
-        (λ e. (before f n : List ℕ) → BlamesManifest before f n bytes.now e) }
-{
-    match Value::from_slice(alloc, bytes) {
-        Ok(value) => Ok(value),
-        Err(error) => match error.classify() {
-            Category::Memory => Err(ManifestError::Memory),
-            _ => Err(ManifestError::Why(ManifestWhy::NotJson)),
-        },
-    }
-}
-
-fn text_in<'a>(value: &'a Value, key: &str) -> Option<&'a str>
-    ensures { option_map (λ s. s.now) result ≡ text_at key.now (view value.now) }
-{
-    value.get(key).and_then(Value::as_str)
-}
-
-fn number_in(value: &Value, key: &str) -> Option<u64>
-    ensures { result ≡ number_at key.now (view value.now) }
-{
-    value.get(key).and_then(Value::as_u64)
-}
-
-fn list_in<'a>(value: &'a Value, key: &str) -> Option<&'a Vec<Value>>
-    ensures { option_map (λ v. items_view v.now.items) result ≡ list_at key.now (view value.now) }
-{
-    value.get(key).and_then(Value::as_array)
 }
 
 // The file of a table that a value is, if it is one.
@@ -128,7 +94,7 @@ fn table_in<'a>(alloc: Global, value: &'a Value) -> Result<Option<Vec<NamedFile<
     if !is_component(alloc, keyspace)? || !is_component(alloc, table)? {
         return Ok(None);
     }
-    files_in(alloc, keyspace, table, list.as_slice())
+    files_in(alloc, keyspace, table, list)
 }
 
 // The files of the tables that values are.

@@ -1,8 +1,10 @@
 // Why bytes were not read as a manifest.
 ghost use Rattle.std.specs.Prelude.{◌≡◌};
 ghost use Rattle.med_manifest.specs.declared.why.ManifestError.TheVariants.{Memory};
+ghost use Rattle.med_manifest.specs.Refusals.{of_json};
 
 use med_base::{NoMemory, ObjPath};
+use med_json::JsonError;
 use std::alloc::{AllocError, AllocFailed};
 
 /// Why bytes are not the manifest of a backup: their first fault. The text comes before the
@@ -53,5 +55,16 @@ impl From<NoMemory> for ManifestError {
 
     fn from(_: NoMemory) -> Self {
         ManifestError::Memory
+    }
+}
+
+impl From<JsonError> for ManifestError {
+    ghost from_gives = { λ error e. e ≡ of_json error };
+
+    fn from(error: JsonError) -> Self {
+        match error {
+            JsonError::NotJson => ManifestError::Why(ManifestWhy::NotJson),
+            JsonError::Memory => ManifestError::Memory,
+        }
     }
 }

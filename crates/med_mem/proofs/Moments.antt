@@ -4,7 +4,8 @@ use Rattle.std.specs.Prelude.{is_some}
 use Rattle.med_outside.specs.Effects.{after_all}
 use Rattle.med_outside.specs.State.{State, Moves}
 use Rattle.med_mem.specs.Told.{Note, content_after, ComesAfter, StoodSince, AreMadeBy}
-use Rattle.med_mem.proofs.Notes.{both, after_more}
+use Rattle.med_base.proofs.Bools.{both}
+use Rattle.med_mem.proofs.Notes.{after_more}
 
 made_end : (first later : List Note) (calls : ℕ)
     → AreMadeBy calls (first ++ later) → AreMadeBy calls later

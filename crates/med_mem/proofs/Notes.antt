@@ -5,16 +5,13 @@ use Rattle.std.specs.Ordering.{nat_cmp}
 use Rattle.std.specs.Cmp.Lexicographic.{slice_cmp, nat_list_cmp_total}
 use Rattle.std.proofs.lemmas.List.{map-append}
 use Rattle.med_base.specs.Content.{Content, Object}
+use Rattle.med_base.proofs.Bools.{both}
 use Rattle.med_outside.specs.Effects.{Effect, made, applied}
 use Rattle.med_mem.specs.declared.object.MemObject.{MemObject}
 use Rattle.med_mem.specs.declared.object.Change.{Change}
 use Rattle.med_mem.specs.Objects.{pairs, put_at, noted, Tells, IsStored, IsNoted}
 use Rattle.med_mem.specs.Told.{Note, content_after, AreMadeBy}
 use Rattle.med_mem.specs.Calls.{note_of}
-
-pub both : (a b : Bool) → IsTrue (a && b) → IsTrue a × IsTrue b
-both true b e = (refl, e)
-both false b e = absurd (cc)
 
 join : (a b : Bool) → IsTrue a → IsTrue b → IsTrue (a && b)
 join true b e f = f

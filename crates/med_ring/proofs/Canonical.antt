@@ -5,18 +5,20 @@ use Rattle.std.specs.Fmt.{signed_decimal}
 use Rattle.std.specs.Str.{IsUtf8}
 use Rattle.std.proofs.lemmas.Bool.{lt-ltb}
 use Rattle.json.specs.Print.{quoted}
-use Rattle.serde_json.specs.Data.{Data, Members, depth, items_depth, members_depth}
+use Rattle.serde_json.specs.Data.{Data, depth, items_depth, members_depth}
 use Rattle.serde_json.specs.Read.{read}
 use Rattle.serde_json.specs.View.{items_of}
 use Rattle.serde_json.specs.Written.{compact_text, items_text, members_text, number_text, has_float, items_have_float, members_have_float}
 use Rattle.serde_json.specs.Find.{of_integer}
 use Rattle.serde_json.proofs.OnLiterals.{serde_json_on_literals}
 use Rattle.med_base.specs.Kinds.{IsFqdn}
+use Rattle.med_base.proofs.Lists.{all_split}
+use Rattle.med_json.specs.Tree.{members_in}
+use Rattle.med_json.proofs.TreeLemmas.{items_in-of}
 use Rattle.med_ring.specs.Host.{RingHost, names_in, tokens_in, IsInRange, KeepsRules}
 use Rattle.med_ring.specs.Ring.{IsShape, IsHost, IsRing}
-use Rattle.med_ring.specs.Tree.{items_in, members_in, IsNumber, IsToken}
+use Rattle.med_ring.specs.Token.{IsNumber, IsToken}
 use Rattle.med_ring.specs.Written.{by_commas, truth_text, value_text, host_text, ring_text, token_data, host_data, members_data, ring_data}
-use Rattle.med_ring.proofs.Zips.{all_split}
 
 number_is : (t : ℤ) → number_text (of_integer t) ≡ signed_decimal t
 number_is (pos n) = refl
@@ -110,14 +112,10 @@ are_numbers : (ts : List ℤ) → AllByRecursion IsNumber (map token_data ts)
 are_numbers [] = tt
 are_numbers (t ∷ ts) = (refl, are_numbers ts)
 
-same_items : (ds : List Data) → items_in (items_of ds) ≡ ds
-same_items [] = refl
-same_items (d ∷ ds) = ap (λ (es : List Data). d ∷ es) (same_items ds)
-
 written_shape : (h : RingHost)
     → IsShape (host_data h) (map token_data h.tokens) h.is_up h.rack h.dc
 written_shape h = record {
-  tokens_are = ap (λ (ds : List Data). Some ds) (same_items (map token_data h.tokens));
+  tokens_are = ap (λ (ds : List Data). Some ds) (items_in-of (map token_data h.tokens));
   are_numbers = are_numbers h.tokens;
   is_up_is = refl;
   rack_is = refl;
@@ -146,9 +144,8 @@ written_hosts (h ∷ hs) fit range =
 pub is_ring : (text : List ℕ) (hs : List RingHost) → IsUtf8 text → read text ≡ Some (ring_data hs)
     → KeepsRules hs → IsRing text hs
 is_ring text hs utf8 reads keeps = record {
-  utf8 = utf8;
   tree = ring_data hs;
-  reads = reads;
+  text = record { utf8 = utf8; reads = reads };
   members = members_data hs;
   members_are = refl;
   hosts_are = written_hosts hs keeps.names_fit keeps.in_range;

@@ -4,17 +4,18 @@ use Rattle.std.specs.List.{AllZip, IsDistinct}
 use Rattle.std.specs.Ordering.{int_eq}
 use Rattle.serde_json.specs.Data.{Data, Members}
 use Rattle.serde_json.specs.Find.{as_object}
-use Rattle.serde_json.specs.Read.{read}
+use Rattle.med_base.proofs.Lists.{no_zip, no_zip_cut}
+use Rattle.med_json.specs.Tree.{IsText, members_in}
+use Rattle.med_json.proofs.TreeLemmas.{tree_once, no_text, members_once}
 use Rattle.med_ring.specs.declared.error.RingWhy.TheVariants.{NotJson, NotRing, TokenRange, TokenTwice}
 use Rattle.med_ring.specs.declared.error.RingError.{RingError}
 use Rattle.med_ring.specs.declared.error.RingError.TheVariants.{Why, Memory}
 use Rattle.med_ring.specs.Host.{RingHost, tokens_in}
 use Rattle.med_ring.specs.Ring.{IsHost, IsRing}
 use Rattle.med_ring.specs.Blames.{IsMisshapen, IsOutOfRange, IsFaultOf, IsNoObject, HasTwice, BlamesRing, HasNoRing}
-use Rattle.med_ring.specs.Tree.{members_in, IsToken}
-use Rattle.med_ring.proofs.OneRing.{members_same, hosts_same}
+use Rattle.med_ring.specs.Token.{IsToken}
+use Rattle.med_ring.proofs.OneRing.{hosts_same}
 use Rattle.med_ring.proofs.Repeated.{twice_not_distinct}
-use Rattle.med_ring.proofs.Zips.{no_zip, no_zip_cut}
 
 pub misshapen_no_host : (m : List ℕ × Data) → IsMisshapen m → (h : RingHost) → IsHost m h → ⊥
 misshapen_no_host m bad h is = bad (record {
@@ -39,10 +40,10 @@ out_of_range_no_host m bad h is =
 pub fault_no_hosts : (fault : List ℕ × Data → Type 0)
     → ((m : List ℕ × Data) → fault m → (h : RingHost) → IsHost m h → ⊥) → (bytes name : List ℕ)
     → IsFaultOf fault bytes name → (tree : Data) (ms : Members) (hosts : List RingHost)
-    → read bytes ≡ Some tree → as_object tree ≡ Some ms → AllZip IsHost (members_in ms) hosts → ⊥
-fault_no_hosts fault no_host bytes name f tree ms hosts reads is zip =
-    let trees : tree ≡ f.tree = cc (sym reads ∙ f.reads) in
-    let members : ms ≡ f.members = members_same tree f.tree ms f.members trees is f.members_are in
+    → IsText bytes tree → as_object tree ≡ Some ms → AllZip IsHost (members_in ms) hosts → ⊥
+fault_no_hosts fault no_host bytes name f tree ms hosts text is zip =
+    let trees = tree_once bytes tree f.tree text f.text in
+    let members : ms ≡ f.members = members_once tree f.tree ms f.members trees is f.members_are in
     let all : members_in ms ≡ f.first.before ++ f.first.bad ∷ f.first.rest =
     ap members_in members ∙ f.first.cut in
     no_zip_cut IsHost f.first.before f.first.bad f.first.rest hosts
@@ -53,21 +54,21 @@ fault_no_ring : (fault : List ℕ × Data → Type 0)
     → ((m : List ℕ × Data) → fault m → (h : RingHost) → IsHost m h → ⊥) → (bytes name : List ℕ)
     → IsFaultOf fault bytes name → (hosts : List RingHost) → IsRing bytes hosts → ⊥
 fault_no_ring fault no_host bytes name f hosts ring =
-    fault_no_hosts fault no_host bytes name f ring.tree ring.members hosts ring.reads
+    fault_no_hosts fault no_host bytes name f ring.tree ring.members hosts ring.text
     ring.members_are ring.hosts_are
 
 no_object_no_ring : (bytes name : List ℕ) → IsNoObject bytes name → (hosts : List RingHost)
     → IsRing bytes hosts → ⊥
 no_object_no_ring bytes name f hosts ring =
-    let tree : ring.tree ≡ f.tree = cc (sym ring.reads ∙ f.reads) in
+    let tree = tree_once bytes ring.tree f.tree ring.text f.text in
     cc (sym ring.members_are ∙ ap as_object tree ∙ f.no_object)
 
 twice_no_ring : (bytes : List ℕ) (token : ℤ) → HasTwice bytes token → (hosts : List RingHost)
     → IsRing bytes hosts → ⊥
 twice_no_ring bytes token f hosts ring =
-    let tree : ring.tree ≡ f.tree = cc (sym ring.reads ∙ f.reads) in
+    let tree = tree_once bytes ring.tree f.tree ring.text f.text in
     let members : ring.members ≡ f.members =
-    members_same ring.tree f.tree ring.members f.members tree ring.members_are f.members_are in
+    members_once ring.tree f.tree ring.members f.members tree ring.members_are f.members_are in
     let zip : AllZip IsHost (members_in f.members) hosts =
     subst (λ (ms : Members). AllZip IsHost (members_in ms) hosts) members ring.hosts_are in
     let same : hosts ≡ f.hosts = hosts_same (members_in f.members) hosts f.hosts zip f.hosts_are in
@@ -76,7 +77,7 @@ twice_no_ring bytes token f hosts ring =
 
 -- an error that is right leaves no ring
 pub no_ring : (bytes : List ℕ) (e : RingError) → BlamesRing bytes e → HasNoRing bytes e
-no_ring bytes (Why NotJson) blames = λ hosts ring. cc (sym ring.reads ∙ blames ring.utf8)
+no_ring bytes (Why NotJson) blames = λ hosts ring. no_text bytes ring.tree blames ring.text
 no_ring bytes (Why (NotRing host)) (inl f) = no_object_no_ring bytes (string_bytes host) f
 no_ring bytes (Why (NotRing host)) (inr f) =
     fault_no_ring IsMisshapen misshapen_no_host bytes (string_bytes host) f

@@ -1,8 +1,8 @@
 pub mod Canonical
+pub mod Cuts
 pub mod Faults
 pub mod MemberLemmas
 pub mod OneCause
 pub mod OneRing
 pub mod Order
 pub mod Repeated
-pub mod Zips

@@ -2,23 +2,24 @@
 use Rattle.std.proofs.Common.{◌≡◌, ◌∙◌, inr, ℕ, List, [], ◌∷◌, ◌++◌, map, Some, String, Global, string_bytes, refl, ap}
 use Rattle.std.proofs.lemmas.List.{map-append}
 use Rattle.std.specs.List.{AllZip}
-use Rattle.std.specs.Str.{IsUtf8}
 use Rattle.serde_json.specs.Data.{Data, Members}
 use Rattle.serde_json.specs.Find.{as_object}
-use Rattle.serde_json.specs.Read.{read}
 use Rattle.serde_json.specs.View.{view, members_view}
 use Rattle.serde_json.specs.declared.value.Value.{Value}
+use Rattle.med_json.specs.declared.read.JsonError.{JsonError}
+use Rattle.med_json.specs.declared.read.JsonError.TheVariants as cause
+use Rattle.med_json.specs.Blames.{BlamesText}
 use Rattle.med_ring.specs.declared.error.RingWhy.TheVariants.{NotJson, NotRing, TokenRange, TokenTwice}
 use Rattle.med_ring.specs.declared.error.RingError.{RingError}
 use Rattle.med_ring.specs.declared.error.RingError.TheVariants.{Why, Memory}
 use Rattle.med_ring.specs.declared.ring.Host.{Host}
-use Rattle.med_ring.specs.Blames.{IsShaped, IsMisshapen, IsOutOfRange, IsFirstAtFault, IsFaultOf, BlamesRing}
+use Rattle.med_ring.specs.Blames.{IsShaped, IsMisshapen, IsOutOfRange, IsFirstAtFault, IsFaultOf, BlamesRing, of_json}
 use Rattle.med_ring.specs.Host.{RingHost, host_view, tokens_in}
 use Rattle.med_ring.specs.Members.{IsNotRingOf, IsRangeOf, BlamesHost, BlamesMembers}
 use Rattle.med_ring.specs.Ring.{IsHost}
-use Rattle.med_ring.specs.Tree.{members_in}
+use Rattle.med_json.specs.Tree.{IsText, members_in}
 use Rattle.med_ring.specs.Twice.{BlamesTokens}
-use Rattle.med_ring.proofs.Zips.{zip_push}
+use Rattle.med_base.proofs.Lists.{zip_push}
 
 abbrev Entry : Type 0
 Entry = String Global × Value
@@ -93,45 +94,49 @@ out_of_range m (Why (TokenTwice token)) names bad = absurd names
 out_of_range m Memory names bad = tt
 
 fault_of : (fault : List ℕ × Data → Type 0) (bytes name : List ℕ) (tree : Data) (ms : Members)
-    → IsUtf8 bytes → read bytes ≡ Some tree → as_object tree ≡ Some ms
+    → IsText bytes tree → as_object tree ≡ Some ms
     → IsFirstAtFault fault (members_in ms) name → IsFaultOf fault bytes name
-fault_of fault bytes name tree ms utf8 reads is f = record {
-  utf8 = utf8;
+fault_of fault bytes name tree ms text is f = record {
   tree = tree;
-  reads = reads;
+  text = text;
   members = ms;
   members_are = is;
   first = f;
 }
 
+-- an error over a text is one over the bytes
+pub text_blamed : (bytes : List ℕ) (e : JsonError) → BlamesText bytes e
+    → BlamesRing bytes (of_json e)
+text_blamed bytes cause.NotJson blames = blames
+text_blamed bytes cause.Memory blames = tt
+
 -- an error over the members is one over the bytes
 pub blames_hosts : (bytes : List ℕ) (tree : Data) (ms : Members) (err : RingError)
-    → IsUtf8 bytes → read bytes ≡ Some tree → as_object tree ≡ Some ms
-    → BlamesMembers (members_in ms) err → BlamesRing bytes err
-blames_hosts bytes tree ms (Why (NotRing host)) utf8 reads is f =
-    inr (fault_of IsMisshapen bytes (string_bytes host) tree ms utf8 reads is f)
-blames_hosts bytes tree ms (Why (TokenRange host)) utf8 reads is f =
-    fault_of IsOutOfRange bytes (string_bytes host) tree ms utf8 reads is f
-blames_hosts bytes tree ms (Why NotJson) utf8 reads is f = absurd f
-blames_hosts bytes tree ms (Why (TokenTwice token)) utf8 reads is f = absurd f
-blames_hosts bytes tree ms Memory utf8 reads is f = tt
+    → IsText bytes tree → as_object tree ≡ Some ms → BlamesMembers (members_in ms) err
+    → BlamesRing bytes err
+blames_hosts bytes tree ms (Why (NotRing host)) text is f =
+    inr (fault_of IsMisshapen bytes (string_bytes host) tree ms text is f)
+blames_hosts bytes tree ms (Why (TokenRange host)) text is f =
+    fault_of IsOutOfRange bytes (string_bytes host) tree ms text is f
+blames_hosts bytes tree ms (Why NotJson) text is f = absurd f
+blames_hosts bytes tree ms (Why (TokenTwice token)) text is f = absurd f
+blames_hosts bytes tree ms Memory text is f = tt
 
 -- and so is one over the tokens of all hosts
 pub blames_tokens : (bytes : List ℕ) (tree : Data) (ms : Members) (hosts : List RingHost)
-    (err : RingError) → IsUtf8 bytes → read bytes ≡ Some tree → as_object tree ≡ Some ms
+    (err : RingError) → IsText bytes tree → as_object tree ≡ Some ms
     → AllZip IsHost (members_in ms) hosts → BlamesTokens (tokens_in hosts) err
     → BlamesRing bytes err
-blames_tokens bytes tree ms hosts (Why (TokenTwice token)) utf8 reads is zip f = record {
-  utf8 = utf8;
+blames_tokens bytes tree ms hosts (Why (TokenTwice token)) text is zip f = record {
   tree = tree;
-  reads = reads;
+  text = text;
   members = ms;
   members_are = is;
   hosts = hosts;
   hosts_are = zip;
   twice = f;
 }
-blames_tokens bytes tree ms hosts (Why NotJson) utf8 reads is zip f = absurd f
-blames_tokens bytes tree ms hosts (Why (NotRing host)) utf8 reads is zip f = absurd f
-blames_tokens bytes tree ms hosts (Why (TokenRange host)) utf8 reads is zip f = absurd f
-blames_tokens bytes tree ms hosts Memory utf8 reads is zip f = tt
+blames_tokens bytes tree ms hosts (Why NotJson) text is zip f = absurd f
+blames_tokens bytes tree ms hosts (Why (NotRing host)) text is zip f = absurd f
+blames_tokens bytes tree ms hosts (Why (TokenRange host)) text is zip f = absurd f
+blames_tokens bytes tree ms hosts Memory text is zip f = tt

@@ -1,18 +1,17 @@
 -- Bytes are refused for one cause at most.
-use Rattle.std.proofs.Common.{◌≡◌, ◌∙◌, ◌⊎◌, inl, inr, ℕ, ℤ, List, [], ◌∷◌, ◌++◌, Some, None, sym, ap, subst, string_bytes}
+use Rattle.std.proofs.Common.{◌≡◌, ◌∙◌, ◌⊎◌, inl, inr, ℕ, ℤ, List, [], ◌∷◌, ◌++◌, Some, sym, ap, subst, string_bytes}
 use Rattle.std.specs.List.{AllZip}
-use Rattle.std.specs.Str.{IsUtf8}
 use Rattle.serde_json.specs.Data.{Data, Members}
 use Rattle.serde_json.specs.Find.{as_object}
-use Rattle.serde_json.specs.Read.{read}
+use Rattle.med_json.specs.Tree.{IsText, members_in}
+use Rattle.med_json.proofs.TreeLemmas.{tree_once, no_text, members_once}
 use Rattle.med_ring.specs.declared.error.RingWhy.TheVariants.{NotJson, NotRing, TokenRange, TokenTwice}
 use Rattle.med_ring.specs.Blames.{IsMisshapen, IsOutOfRange, IsFaultOf, IsNoObject, HasTwice, CauseIsOne}
 use Rattle.med_ring.specs.Host.{RingHost, tokens_in}
 use Rattle.med_ring.specs.Ring.{IsHost}
-use Rattle.med_ring.specs.Tree.{members_in}
 use Rattle.med_ring.specs.Twice.{IsFirstTwice}
 use Rattle.med_ring.proofs.Faults.{misshapen_no_host, out_of_range_no_host, fault_no_hosts}
-use Rattle.med_ring.proofs.OneRing.{members_same, hosts_same}
+use Rattle.med_ring.proofs.OneRing.{hosts_same}
 use Rattle.med_ring.proofs.Repeated.{twice_not_distinct}
 
 abbrev Member : Type 0
@@ -45,9 +44,9 @@ bad_same : (f g : Member → Type 0) (bytes name other : List ℕ)
     → ((m : Member) → f m → IsNoHost m) → ((m : Member) → g m → IsNoHost m)
     → (p : IsFaultOf f bytes name) (q : IsFaultOf g bytes other) → p.first.bad ≡ q.first.bad
 bad_same f g bytes name other no_f no_g p q =
-    let tree : p.tree ≡ q.tree = cc (sym p.reads ∙ q.reads) in
+    let tree = tree_once bytes p.tree q.tree p.text q.text in
     let members : p.members ≡ q.members =
-    members_same p.tree q.tree p.members q.members tree p.members_are q.members_are in
+    members_once p.tree q.tree p.members q.members tree p.members_are q.members_are in
     let e : p.first.before ++ p.first.bad ∷ p.first.rest
     ≡ q.first.before ++ q.first.bad ∷ q.first.rest =
     sym p.first.cut ∙ ap members_in members ∙ q.first.cut in
@@ -109,9 +108,9 @@ twice_same s t ts p q =
 
 tokens_same : (bytes : List ℕ) (s t : ℤ) → HasTwice bytes s → HasTwice bytes t → s ≡ t
 tokens_same bytes s t p q =
-    let tree : p.tree ≡ q.tree = cc (sym p.reads ∙ q.reads) in
+    let tree = tree_once bytes p.tree q.tree p.text q.text in
     let members : p.members ≡ q.members =
-    members_same p.tree q.tree p.members q.members tree p.members_are q.members_are in
+    members_once p.tree q.tree p.members q.members tree p.members_are q.members_are in
     let zip : AllZip IsHost (members_in q.members) p.hosts =
     subst (λ (ms : Members). AllZip IsHost (members_in ms) p.hosts) members p.hosts_are in
     let same : p.hosts ≡ q.hosts =
@@ -119,16 +118,11 @@ tokens_same bytes s t p q =
     twice_same s t (tokens_in q.hosts)
     (subst (λ (hs : List RingHost). IsFirstTwice (tokens_in hs) s) same p.twice) q.twice
 
--- JSON and no JSON
-no_text : (bytes : List ℕ) (tree : Data) → (IsUtf8 bytes → read bytes ≡ None) → IsUtf8 bytes
-    → read bytes ≡ Some tree → ⊥
-no_text bytes tree none utf8 reads = cc (sym reads ∙ none utf8)
-
 -- an object and none
 no_members : (bytes name : List ℕ) → IsNoObject bytes name → (tree : Data) (ms : Members)
-    → read bytes ≡ Some tree → as_object tree ≡ Some ms → ⊥
-no_members bytes name f tree ms reads is =
-    let same : tree ≡ f.tree = cc (sym reads ∙ f.reads) in
+    → IsText bytes tree → as_object tree ≡ Some ms → ⊥
+no_members bytes name f tree ms text is =
+    let same = tree_once bytes tree f.tree text f.text in
     cc (sym is ∙ ap as_object same ∙ f.no_object)
 
 -- a host out of its form is not one with a token out of range
@@ -150,45 +144,45 @@ names_same fault bytes name other no_host p q =
 
 pub cause_is_one : CauseIsOne
 cause_is_one bytes NotJson NotJson p q = tt
-cause_is_one bytes NotJson (NotRing h) p (inl q) = no_text bytes q.tree p q.utf8 q.reads
-cause_is_one bytes NotJson (NotRing h) p (inr q) = no_text bytes q.tree p q.utf8 q.reads
-cause_is_one bytes NotJson (TokenRange h) p q = no_text bytes q.tree p q.utf8 q.reads
-cause_is_one bytes NotJson (TokenTwice t) p q = no_text bytes q.tree p q.utf8 q.reads
-cause_is_one bytes (NotRing h) NotJson (inl p) q = no_text bytes p.tree q p.utf8 p.reads
-cause_is_one bytes (NotRing h) NotJson (inr p) q = no_text bytes p.tree q p.utf8 p.reads
+cause_is_one bytes NotJson (NotRing h) p (inl q) = no_text bytes q.tree p q.text
+cause_is_one bytes NotJson (NotRing h) p (inr q) = no_text bytes q.tree p q.text
+cause_is_one bytes NotJson (TokenRange h) p q = no_text bytes q.tree p q.text
+cause_is_one bytes NotJson (TokenTwice t) p q = no_text bytes q.tree p q.text
+cause_is_one bytes (NotRing h) NotJson (inl p) q = no_text bytes p.tree q p.text
+cause_is_one bytes (NotRing h) NotJson (inr p) q = no_text bytes p.tree q p.text
 cause_is_one bytes (NotRing h) (NotRing g) (inl p) (inl q) = p.no_name ∙ sym q.no_name
 cause_is_one bytes (NotRing h) (NotRing g) (inl p) (inr q) =
-    absurd (no_members bytes (string_bytes h) p q.tree q.members q.reads q.members_are)
+    absurd (no_members bytes (string_bytes h) p q.tree q.members q.text q.members_are)
 cause_is_one bytes (NotRing h) (NotRing g) (inr p) (inl q) =
-    absurd (no_members bytes (string_bytes g) q p.tree p.members p.reads p.members_are)
+    absurd (no_members bytes (string_bytes g) q p.tree p.members p.text p.members_are)
 cause_is_one bytes (NotRing h) (NotRing g) (inr p) (inr q) =
     names_same IsMisshapen bytes (string_bytes h) (string_bytes g) misshapen_no_host p q
 cause_is_one bytes (NotRing h) (TokenRange g) (inl p) q =
-    no_members bytes (string_bytes h) p q.tree q.members q.reads q.members_are
+    no_members bytes (string_bytes h) p q.tree q.members q.text q.members_are
 cause_is_one bytes (NotRing h) (TokenRange g) (inr p) q =
     forms_apart bytes (string_bytes h) (string_bytes g) p q
 cause_is_one bytes (NotRing h) (TokenTwice t) (inl p) q =
-    no_members bytes (string_bytes h) p q.tree q.members q.reads q.members_are
+    no_members bytes (string_bytes h) p q.tree q.members q.text q.members_are
 cause_is_one bytes (NotRing h) (TokenTwice t) (inr p) q =
     fault_no_hosts IsMisshapen misshapen_no_host bytes (string_bytes h) p q.tree q.members q.hosts
-    q.reads q.members_are q.hosts_are
-cause_is_one bytes (TokenRange h) NotJson p q = no_text bytes p.tree q p.utf8 p.reads
+    q.text q.members_are q.hosts_are
+cause_is_one bytes (TokenRange h) NotJson p q = no_text bytes p.tree q p.text
 cause_is_one bytes (TokenRange h) (NotRing g) p (inl q) =
-    no_members bytes (string_bytes g) q p.tree p.members p.reads p.members_are
+    no_members bytes (string_bytes g) q p.tree p.members p.text p.members_are
 cause_is_one bytes (TokenRange h) (NotRing g) p (inr q) =
     forms_apart bytes (string_bytes g) (string_bytes h) q p
 cause_is_one bytes (TokenRange h) (TokenRange g) p q =
     names_same IsOutOfRange bytes (string_bytes h) (string_bytes g) out_of_range_no_host p q
 cause_is_one bytes (TokenRange h) (TokenTwice t) p q =
     fault_no_hosts IsOutOfRange out_of_range_no_host bytes (string_bytes h) p q.tree q.members
-    q.hosts q.reads q.members_are q.hosts_are
-cause_is_one bytes (TokenTwice s) NotJson p q = no_text bytes p.tree q p.utf8 p.reads
+    q.hosts q.text q.members_are q.hosts_are
+cause_is_one bytes (TokenTwice s) NotJson p q = no_text bytes p.tree q p.text
 cause_is_one bytes (TokenTwice s) (NotRing g) p (inl q) =
-    no_members bytes (string_bytes g) q p.tree p.members p.reads p.members_are
+    no_members bytes (string_bytes g) q p.tree p.members p.text p.members_are
 cause_is_one bytes (TokenTwice s) (NotRing g) p (inr q) =
     fault_no_hosts IsMisshapen misshapen_no_host bytes (string_bytes g) q p.tree p.members p.hosts
-    p.reads p.members_are p.hosts_are
+    p.text p.members_are p.hosts_are
 cause_is_one bytes (TokenTwice s) (TokenRange g) p q =
     fault_no_hosts IsOutOfRange out_of_range_no_host bytes (string_bytes g) q p.tree p.members
-    p.hosts p.reads p.members_are p.hosts_are
+    p.hosts p.text p.members_are p.hosts_are
 cause_is_one bytes (TokenTwice s) (TokenTwice t) p q = tokens_same bytes s t p q

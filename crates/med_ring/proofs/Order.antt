@@ -14,9 +14,9 @@ use Rattle.med_base.specs.Kinds.{IsFqdn}
 use Rattle.med_ring.specs.declared.ring.Host.{Host}
 use Rattle.med_ring.specs.Host.{RingHost, host_view, names_in, tokens_in, HasRisingNames, AreInRange, KeepsRules}
 use Rattle.med_ring.specs.Ring.{IsHost}
-use Rattle.med_ring.specs.Tree.{members_in}
+use Rattle.med_json.specs.Tree.{members_in}
 use Rattle.med_ring.specs.Written.{host_data, members_data}
-use Rattle.med_ring.proofs.Zips.{cut_at}
+use Rattle.med_ring.proofs.Cuts.{cut_at}
 
 -- the name is below each of these
 abbrev IsBelow : List ℕ → List (List ℕ) → Type 0

@@ -11,7 +11,8 @@ use Rattle.med_ring.specs.declared.error.RingError.TheVariants.{Why, Memory}
 use Rattle.med_ring.specs.declared.ring.Host.{Host}
 use Rattle.med_ring.specs.Host.{RingHost, host_view, tokens_in, IsInRange, AreInRange}
 use Rattle.med_ring.specs.Twice.{IsFirstTwice, BlamesTokens}
-use Rattle.med_ring.proofs.Zips.{cut_at, all_append}
+use Rattle.med_base.proofs.Lists.{all_append}
+use Rattle.med_ring.proofs.Cuts.{cut_at}
 
 -- where a token stood before, the tokens are not distinct
 pub twice_not_distinct : (ts : List ℤ) (t : ℤ) → IsFirstTwice ts t → IsDistinct int_eq ts → ⊥

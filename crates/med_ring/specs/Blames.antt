@@ -2,18 +2,19 @@
 -- This project's own order: no JSON, no object, then host by host, and tokens that stand twice.
 use Rattle.std.specs.Prelude.{◌≡◌, ◌⊎◌, ℕ, ℤ, Bool, List, [], ◌∷◌, ◌++◌, Some, None, slice_get, string_bytes}
 use Rattle.std.specs.List.{AllZip}
-use Rattle.std.specs.Str.{IsUtf8}
 use Rattle.serde_json.specs.Data.{Data, Members}
 use Rattle.serde_json.specs.Find.{as_object}
-use Rattle.serde_json.specs.Read.{read}
 use Rattle.med_base.specs.Kinds.{IsFqdn}
+use Rattle.med_json.specs.declared.read.JsonError.{JsonError}
+use Rattle.med_json.specs.declared.read.JsonError.TheVariants as cause
+use Rattle.med_json.specs.Tree.{IsText, IsNoText, members_in}
 use Rattle.med_ring.specs.declared.error.RingWhy.{RingWhy}
 use Rattle.med_ring.specs.declared.error.RingWhy.TheVariants.{NotJson, NotRing, TokenRange, TokenTwice}
 use Rattle.med_ring.specs.declared.error.RingError.{RingError}
 use Rattle.med_ring.specs.declared.error.RingError.TheVariants.{Why, Memory}
 use Rattle.med_ring.specs.Host.{RingHost, tokens_in}
 use Rattle.med_ring.specs.Ring.{IsShape, IsHost, IsRing}
-use Rattle.med_ring.specs.Tree.{members_in, token_of}
+use Rattle.med_ring.specs.Token.{token_of}
 use Rattle.med_ring.specs.Twice.{IsFirstTwice}
 
 -- a member has the name of a node and the form of a host, its tokens numbers of whatever spelling
@@ -55,35 +56,37 @@ pub record IsFirstAtFault (fault : List ℕ × Data → Type 0) (members : List 
 
 -- the bytes are an object whose first member that is no host has this name and the fault
 pub record IsFaultOf (fault : List ℕ × Data → Type 0) (bytes name : List ℕ) : Type 0 where
-  pub utf8 : IsUtf8 bytes
   pub tree : Data
-  pub reads : read bytes ≡ Some tree
+  pub text : IsText bytes tree
   pub members : Members
   pub members_are : as_object tree ≡ Some members
   pub first : IsFirstAtFault fault (members_in members) name
 
 -- the bytes are JSON but no object, which no host is blamed for
 pub record IsNoObject (bytes name : List ℕ) : Type 0 where
-  pub utf8 : IsUtf8 bytes
   pub tree : Data
-  pub reads : read bytes ≡ Some tree
+  pub text : IsText bytes tree
   pub no_object : as_object tree ≡ None
   pub no_name : name ≡ []
 
 -- the members are hosts one by one, and this token is the first that stood before
 pub record HasTwice (bytes : List ℕ) (token : ℤ) : Type 0 where
-  pub utf8 : IsUtf8 bytes
   pub tree : Data
-  pub reads : read bytes ≡ Some tree
+  pub text : IsText bytes tree
   pub members : Members
   pub members_are : as_object tree ≡ Some members
   pub hosts : List RingHost
   pub hosts_are : AllZip IsHost (members_in members) hosts
   pub twice : IsFirstTwice (tokens_in hosts) token
 
+-- the error that an error of JSON is
+abbrev pub of_json : JsonError → RingError
+of_json cause.NotJson = Why NotJson
+of_json cause.Memory = Memory
+
 -- an error of the reader is right
 abbrev pub BlamesRing : List ℕ → RingError → Type 0
-BlamesRing bytes (Why NotJson) = IsUtf8 bytes → read bytes ≡ None
+BlamesRing bytes (Why NotJson) = IsNoText bytes
 BlamesRing bytes (Why (NotRing host)) =
     IsNoObject bytes (string_bytes host) ⊎ IsFaultOf IsMisshapen bytes (string_bytes host)
 BlamesRing bytes (Why (TokenRange host)) = IsFaultOf IsOutOfRange bytes (string_bytes host)

@@ -2,6 +2,6 @@ pub mod Blames
 pub mod Host
 pub mod Members
 pub mod Ring
-pub mod Tree
+pub mod Token
 pub mod Twice
 pub mod Written

@@ -1,8 +1,6 @@
 -- Errors over the members of one object, and over one member, for this crate's own clauses.
-use Rattle.std.specs.Prelude.{◌≡◌, ℕ, Bool, List, None, string_bytes}
-use Rattle.std.specs.Str.{IsUtf8}
+use Rattle.std.specs.Prelude.{◌≡◌, ℕ, Bool, List, string_bytes}
 use Rattle.serde_json.specs.Data.{Data}
-use Rattle.serde_json.specs.Read.{read}
 use Rattle.med_base.specs.Kinds.{IsFqdn}
 use Rattle.med_ring.specs.declared.error.RingWhy.TheVariants.{NotJson, NotRing, TokenRange, TokenTwice}
 use Rattle.med_ring.specs.declared.error.RingError.{RingError}
@@ -54,11 +52,3 @@ BlamesName name (Why (TokenRange host)) = ⊥
 BlamesName name (Why NotJson) = ⊥
 BlamesName name (Why (TokenTwice token)) = ⊥
 BlamesName name Memory = Unit {0}
-
--- an error over bytes that should be JSON is right
-abbrev pub BlamesText : List ℕ → RingError → Type 0
-BlamesText bytes (Why NotJson) = IsUtf8 bytes → read bytes ≡ None
-BlamesText bytes (Why (NotRing host)) = ⊥
-BlamesText bytes (Why (TokenRange host)) = ⊥
-BlamesText bytes (Why (TokenTwice token)) = ⊥
-BlamesText bytes Memory = Unit {0}

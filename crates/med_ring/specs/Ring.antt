@@ -4,13 +4,12 @@
 use Rattle.std.specs.Prelude.{◌≡◌, ℕ, Bool, List, Some, codes}
 use Rattle.std.specs.List.{AllByRecursion, AllZip, IsDistinct}
 use Rattle.std.specs.Ordering.{int_eq}
-use Rattle.std.specs.Str.{IsUtf8}
 use Rattle.serde_json.specs.Data.{Data, Members}
 use Rattle.serde_json.specs.Find.{as_object}
-use Rattle.serde_json.specs.Read.{read}
 use Rattle.med_base.specs.Kinds.{IsFqdn}
+use Rattle.med_json.specs.Tree.{IsText, members_in, list_at, truth_at, text_or_empty_at}
 use Rattle.med_ring.specs.Host.{RingHost, tokens_in}
-use Rattle.med_ring.specs.Tree.{members_in, list_at, truth_at, text_at, IsNumber, IsToken}
+use Rattle.med_ring.specs.Token.{IsNumber, IsToken}
 
 -- a value has the form of a host: a list of numbers, a truth value and two texts
 pub record IsShape (d : Data) (numbers : List Data) (is_up : Bool) (rack dc : List ℕ)
@@ -18,8 +17,8 @@ pub record IsShape (d : Data) (numbers : List Data) (is_up : Bool) (rack dc : Li
   pub tokens_are : list_at (codes "tokens") d ≡ Some numbers
   pub are_numbers : AllByRecursion IsNumber numbers
   pub is_up_is : truth_at (codes "is_up") d ≡ Some is_up
-  pub rack_is : text_at (codes "rack") d ≡ Some rack
-  pub dc_is : text_at (codes "dc") d ≡ Some dc
+  pub rack_is : text_or_empty_at (codes "rack") d ≡ Some rack
+  pub dc_is : text_or_empty_at (codes "dc") d ≡ Some dc
 
 -- a member, key and value, is this host
 pub record IsHost (m : List ℕ × Data) (h : RingHost) : Type 0 where
@@ -31,9 +30,8 @@ pub record IsHost (m : List ℕ × Data) (h : RingHost) : Type 0 where
 
 -- the bytes are a token map, and these are its hosts
 pub record IsRing (bytes : List ℕ) (hosts : List RingHost) : Type 0 where
-  pub utf8 : IsUtf8 bytes
   pub tree : Data
-  pub reads : read bytes ≡ Some tree
+  pub text : IsText bytes tree
   pub members : Members
   pub members_are : as_object tree ≡ Some members
   pub hosts_are : AllZip IsHost (members_in members) hosts

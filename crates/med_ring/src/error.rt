@@ -1,9 +1,11 @@
 // Why bytes are no token map.
 ghost use Rattle.std.specs.Prelude.{◌≡◌};
 ghost use Rattle.med_ring.specs.declared.error.RingError.TheVariants.{Memory};
+ghost use Rattle.med_ring.specs.Blames.{of_json};
 ghost use Rattle.med_ring.specs.Members.{IsNotRingOf, IsRangeOf};
 
 use med_base::NoMemory;
+use med_json::JsonError;
 use std::alloc::{AllocError, AllocFailed, Global};
 
 /// Why bytes are no token map.
@@ -53,6 +55,17 @@ impl From<NoMemory> for RingError {
 
     fn from(_: NoMemory) -> Self {
         RingError::Memory
+    }
+}
+
+impl From<JsonError> for RingError {
+    ghost from_gives = { λ error e. e ≡ of_json error };
+
+    fn from(error: JsonError) -> Self {
+        match error {
+            JsonError::NotJson => RingError::Why(RingWhy::NotJson),
+            JsonError::Memory => RingError::Memory,
+        }
     }
 }
 

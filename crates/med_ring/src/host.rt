@@ -1,5 +1,5 @@
 // One host of a token map, from a member of the object.
-ghost use Rattle.std.specs.Prelude.{◌≡◌, None, IfOk, IfErr, IfSome, IsTrue, ◌↔◌, map, option_map};
+ghost use Rattle.std.specs.Prelude.{◌≡◌, None, IfOk, IfErr, IfSome, IsTrue, ◌↔◌, map};
 ghost use Rattle.std.specs.List.{AllByRecursion, AllZip};
 ghost use Rattle.serde_json.specs.View.{view};
 ghost use Rattle.med_base.specs.Kinds.{IsFqdn};
@@ -7,11 +7,12 @@ ghost use Rattle.med_ring.specs.Blames.{HasNoToken};
 ghost use Rattle.med_ring.specs.Host.{host_view, AreInRange};
 ghost use Rattle.med_ring.specs.Members.{HasNoShape, BlamesHost, BlamesName};
 ghost use Rattle.med_ring.specs.Ring.{IsShape, IsHost};
-ghost use Rattle.med_ring.specs.Tree.{text_at, token_of, IsNumber, IsToken};
+ghost use Rattle.med_ring.specs.Token.{token_of, IsNumber, IsToken};
 
 use crate::error::{not_ring, token_range};
 use crate::{Host, RingError};
 use med_base::{Fqdn, NameError, NoMemory};
+use med_json::{list_in, text_or_empty_in, truth_in};
 use serde_json::Value;
 use std::alloc::Global;
 
@@ -65,20 +66,19 @@ fn shape_of(value: &Value) -> Option<Shape<'_>>
         (λ s. IsShape (view value.now) (map view s.numbers.now) s.is_up s.rack.now s.dc.now) }
     ensures none { result ≡ None → HasNoShape (view value.now) }
 {
-    let Some(list) = value.get("tokens").and_then(Value::as_array) else {
+    let Some(numbers) = list_in(value, "tokens") else {
         return None;
     };
-    let numbers = list.as_slice();
     if !are_numbers(numbers) {
         return None;
     }
-    let Some(is_up) = value.get("is_up").and_then(Value::as_bool) else {
+    let Some(is_up) = truth_in(value, "is_up") else {
         return None;
     };
-    let Some(rack) = text_or_empty(value, "rack") else {
+    let Some(rack) = text_or_empty_in(value, "rack") else {
         return None;
     };
-    let Some(dc) = text_or_empty(value, "dc") else {
+    let Some(dc) = text_or_empty_in(value, "dc") else {
         return None;
     };
     Some(Shape {
@@ -87,15 +87,6 @@ fn shape_of(value: &Value) -> Option<Shape<'_>>
         rack,
         dc,
     })
-}
-
-fn text_or_empty<'a>(value: &'a Value, key: &str) -> Option<&'a str>
-    ensures { option_map (λ s. s.now) result ≡ text_at key.now (view value.now) }
-{
-    match value.get(key) {
-        Some(member) => member.as_str(),
-        None => Some(""),
-    }
 }
 
 fn are_numbers(list: &[Value]) -> bool

@@ -1,33 +1,16 @@
-// The tree of a token map, member by member.
-ghost use Rattle.std.specs.Prelude.{◌≡◌, None, Some, IfOk, IfErr, map};
+// The members of a token map, one by one.
+ghost use Rattle.std.specs.Prelude.{IfOk, IfErr, map};
 ghost use Rattle.std.specs.List.{AllZip};
-ghost use Rattle.std.specs.Str.{IsUtf8};
-ghost use Rattle.serde_json.specs.Read.{read};
-ghost use Rattle.serde_json.specs.View.{view, members_view};
+ghost use Rattle.serde_json.specs.View.{members_view};
+ghost use Rattle.med_json.specs.Tree.{members_in};
 ghost use Rattle.med_ring.specs.Host.{host_view, tokens_in, AreInRange, HasRisingNames};
-ghost use Rattle.med_ring.specs.Members.{BlamesMembers, BlamesText};
+ghost use Rattle.med_ring.specs.Members.{BlamesMembers};
 ghost use Rattle.med_ring.specs.Ring.{IsHost};
-ghost use Rattle.med_ring.specs.Tree.{members_in};
 
 use crate::host::read_host;
-use crate::{Host, RingError, RingWhy};
-use serde_json::error::Category;
+use crate::{Host, RingError};
 use serde_json::{Map, Value};
 use std::alloc::Global;
-
-/// The tree of a JSON text.
-pub(crate) fn read_tree(alloc: Global, bytes: &[u8]) -> Result<Value, RingError>
-    ensures ok { IfOk result (λ v. IsUtf8 bytes.now × (read bytes.now ≡ Some (view v))) }
-    ensures err { IfErr result (BlamesText bytes.now) }
-{
-    match Value::from_slice(alloc, bytes) {
-        Ok(value) => Ok(value),
-        Err(error) => match error.classify() {
-            Category::Memory => Err(RingError::Memory),
-            _ => Err(RingError::Why(RingWhy::NotJson)),
-        },
-    }
-}
 
 /// The hosts that the members of an object are, or the fault of the first that is none.
 pub(crate) fn read_hosts(

@@ -9,10 +9,11 @@ ghost use Rattle.med_ring.specs.Written.{ring_text, ring_data};
 
 use crate::RingError;
 use crate::error::not_ring;
-use crate::members::{read_hosts, read_tree};
+use crate::members::read_hosts;
 use crate::repeats::check_tokens;
 use crate::written::ring_value;
 use med_base::{Fqdn, NoMemory};
+use med_json::read_value;
 use std::alloc::Global;
 use std::marker::Model;
 
@@ -55,7 +56,7 @@ impl Ring {
         ensures err { IfErr result (BlamesRing bytes.now) }
         ensures refused { IfErr result (HasNoRing bytes.now) }
     {
-        let tree = read_tree(alloc, bytes)?;
+        let tree = read_value(alloc, bytes)?;
         let Some(members) = tree.as_object() else {
             return Err(not_ring(alloc, ""));
         };

@@ -13,9 +13,9 @@ use Rattle.clap.specs.declared.builder.value_parser.ValueParser.TheVariants as v
 use Rattle.clap.specs.declared.parser.matches.ValueSource.TheVariants.{DefaultValue}
 use Rattle.med_words.specs.Grammar.{Text, Opt, valued, flag, Use, alone, joined, apart, is_used, IsMet}
 use Rattle.med_words.specs.Matched.{is_flag, has_flag}
-use Rattle.med_words.proofs.Rows.{rules, rule_for, value_rule, flag_rule, rows, row_for, at_absent, same_bytes}
+use Rattle.med_words.proofs.Rows.{rules, rule_for, value_rule, flag_rule, rows, row_for, at_absent}
 use Rattle.med_words.proofs.Steps.{or_else_join}
-use Rattle.med_words.proofs.Bools.{or_false}
+use Rattle.med_base.proofs.Bools.{or_false, not_false, same_bytes}
 
 -- ---- defaults pass
 
@@ -216,10 +216,6 @@ module _ (table : List Opt) (uses : List Use) where
 
   abbrev lacking : List Opt → Bool
   lacking t = list_any (λ (a : Rule). a.required && not (is_given a.id end_rows)) (rules t)
-
-  not_false : (b : Bool) → not b ≡ false → b ≡ true
-  not_false true e = refl
-  not_false false e = absurd (true≢false e)
 
   pub met_from : (t : List Opt) → AllByRecursion IsClear t → lacking t ≡ false
       → AllByRecursion (IsMet uses) t

@@ -9,7 +9,8 @@ use Rattle.clap.specs.Faults.{defaults_fault, check_fault, level_fault, walk_fau
 use Rattle.clap.specs.declared.error.kind.ErrorKind.{ErrorKind}
 use Rattle.med_words.specs.Grammar.{Text, Opt, Use, opt_name, opt_of, spelled, Fits, AreOnce, IsMet, Commands, options_of}
 use Rattle.med_words.specs.Passes.{Passes}
-use Rattle.med_words.proofs.Rows.{Level, IsGoodName, leaf, rules, same_bytes}
+use Rattle.med_base.proofs.Bools.{same_bytes}
+use Rattle.med_words.proofs.Rows.{Level, IsGoodName, leaf, rules}
 use Rattle.med_words.proofs.Steps.{or_else_nil, or_else_join, faults}
 use Rattle.med_words.proofs.After.{defaults_none, end_rows, IsClear, met_from, met_to}
 use Rattle.med_words.proofs.Sound.{sound}

@@ -5,14 +5,11 @@ use Rattle.std.specs.Str.{bytes_eq}
 use Rattle.clap.proofs.CutLemmas.{after_first-at}
 use Rattle.med_words.specs.Grammar.{Text, Opt, Use, alone, joined, apart, spelled, Fits, Commands, options_of, IsLine}
 use Rattle.med_words.specs.Passes.{Passes}
-use Rattle.med_words.proofs.Rows.{IsGoodName, same_bytes}
+use Rattle.med_base.proofs.Bools.{same_bytes}
+use Rattle.med_base.proofs.Lists.{all_append}
+use Rattle.med_words.proofs.Rows.{IsGoodName}
 use Rattle.med_words.proofs.Names.{lacks}
 use Rattle.med_words.proofs.Exact.{IsTable}
-
-all_join : {X : Type 0} (P : X → Type 0) (xs ys : List X) → AllByRecursion P xs
-    → AllByRecursion P ys → AllByRecursion P (xs ++ ys)
-all_join P [] ys a b = b
-all_join P (x ∷ xs) ys a b = (a.0, all_join P xs ys a.1 b)
 
 name_passes : (n : Text) → IsGoodName n → Passes (45 ∷ 45 ∷ n)
 name_passes [] g e = absurd g
@@ -37,7 +34,7 @@ use_passes table good (apart n (x ∷ xs)) fit =
 uses_pass : (table : List Opt) → IsTable table → (us : List Use) → AllByRecursion (Fits table) us
     → AllByRecursion Passes (flat_map spelled us)
 uses_pass table good [] fit = tt
-uses_pass table good (u ∷ us) fit = all_join Passes (spelled u) (flat_map spelled us)
+uses_pass table good (u ∷ us) fit = all_append Passes (spelled u) (flat_map spelled us)
     (use_passes table good u fit.0) (uses_pass table good us fit.1)
 
 pub line_passes : (top : List Opt) (commands : Commands) → IsTable top
@@ -47,7 +44,7 @@ pub line_passes : (top : List Opt) (commands : Commands) → IsTable top
     → IsLine top commands words main word own → AllByRecursion Passes words
 line_passes top commands good each plain words main word own s =
     subst (AllByRecursion Passes) (sym s.words_are)
-    (all_join Passes (flat_map spelled main) (word ∷ flat_map spelled own)
+    (all_append Passes (flat_map spelled main) (word ∷ flat_map spelled own)
     (uses_pass top good main s.main_fit) (
       plain word s.options s.command_is,
       uses_pass s.options

@@ -8,7 +8,8 @@ use Rattle.clap.specs.Faults.{settle_fault, turn_fault}
 use Rattle.clap.specs.declared.error.kind.ErrorKind.{ErrorKind}
 use Rattle.clap.specs.declared.error.kind.ErrorKind.TheVariants as kind
 use Rattle.med_words.specs.Grammar.{Text, Opt, valued, opt_of}
-use Rattle.med_words.proofs.Rows.{Level, rules, rule_for, value_rule, flag_rule, by_long, by_id, bytes_same}
+use Rattle.med_base.proofs.Bools.{bytes_same}
+use Rattle.med_words.proofs.Rows.{Level, rules, rule_for, value_rule, flag_rule, by_long, by_id}
 use Rattle.med_words.proofs.Steps.{or_else_nil, or_else_join, long_turn, long_walk, here}
 
 no_repeat : (b : Bool) (k : ErrorKind) → or_else (cond (b && not false) (k ∷ []) []) [] ≡ []

@@ -1,4 +1,3 @@
-pub mod Bools
 pub mod Added
 pub mod Rows
 pub mod Steps

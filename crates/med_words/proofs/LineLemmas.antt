@@ -8,9 +8,8 @@ use Rattle.med_words.specs.Tables.{commands}
 use Rattle.med_words.specs.Values.{given_or}
 use Rattle.med_words.specs.Views.{HasLine}
 use Rattle.med_words.specs.declared.line.Line.{Line}
-use Rattle.med_words.proofs.Rows.{same_bytes, bytes_same}
 use Rattle.med_words.proofs.OwnLemmas.{of_row, needs, needed_value, no_value}
-use Rattle.med_words.proofs.Bools.{both, or_right, or_left, not_true}
+use Rattle.med_base.proofs.Bools.{both, or_right, or_left, not_true, same_bytes, bytes_same}
 
 -- the commands that take the name of a backup, and the others
 abbrev pub with_names : List Text

@@ -3,7 +3,7 @@ use Rattle.std.proofs.Common.{◌≡◌, ◌∙◌, ◌+◌, ◌||◌, ◌==◌,
 use Rattle.std.specs.List.{before_first, after_first, position_or_len}
 use Rattle.clap.specs.Lexer.{name_and_value, has_byte}
 use Rattle.clap.proofs.CutLemmas.{Lacks, before_first-Lacks, before_first-at, after_first-at, list_any-at}
-use Rattle.med_words.proofs.Bools.{or_false}
+use Rattle.med_base.proofs.Bools.{or_false}
 
 pub lacks : (c : ℕ) (xs : List ℕ) → has_byte c xs ≡ false → Lacks c xs
 lacks c [] e i lt = absurd (omega arith)

@@ -6,9 +6,8 @@ use Rattle.std.specs.Str.{bytes_eq}
 use Rattle.med_words.specs.Grammar.{Text, Opt, valued, flag, Use, alone, joined, apart, Row, Commands, options_of, Fits, IsMet, is_used, value_in}
 use Rattle.med_words.specs.Matched.{has_flag, has_valued}
 use Rattle.med_words.specs.Values.{given_or, fails}
-use Rattle.med_words.proofs.Rows.{same_bytes}
 use Rattle.med_words.proofs.RowsHeld.{no_flag, no_valued}
-use Rattle.med_words.proofs.Bools.{both}
+use Rattle.med_base.proofs.Bools.{both, same_bytes}
 
 -- what holds of each row holds of that of a command word
 pub of_row : (p : Row → Bool) (cs : Commands) → list_all p cs ≡ true → (w : Text) (t : List Opt)

@@ -12,7 +12,8 @@ use Rattle.clap.specs.declared.error.kind.ErrorKind.{ErrorKind}
 use Rattle.clap.specs.declared.error.kind.ErrorKind.TheVariants as kind
 use Rattle.clap.specs.declared.builder.value_parser.ValueParser.TheVariants as vp
 use Rattle.med_words.specs.Grammar.{Text, Opt, valued, flag, Use, alone, joined, apart, opt_name, opt_of, is_used}
-use Rattle.med_words.proofs.Rows.{Level, rules, rule_for, value_rule, flag_rule, by_long, rows, row_for, row_with, has_row_is, used_value, used_flag, same_bytes}
+use Rattle.med_base.proofs.Bools.{same_bytes}
+use Rattle.med_words.proofs.Rows.{Level, rules, rule_for, value_rule, flag_rule, by_long, rows, row_for, row_with, has_row_is, used_value, used_flag}
 use Rattle.med_words.proofs.Steps.{or_else_nil, long_turn, long_walk, turn_long, walk_long, here}
 use Rattle.med_words.proofs.Names.{alone_text, cut}
 use Rattle.clap.specs.Walk.{answers_to, arg_by_index}

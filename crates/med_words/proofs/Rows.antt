@@ -3,7 +3,6 @@ use Rattle.std.proofs.Common.{◌≡◌, ◌∙◌, ◌&&◌, ◌||◌, ℕ, Boo
 use Rattle.std.specs.List.{find}
 use Rattle.std.specs.Option.{option_map}
 use Rattle.std.specs.Str.{bytes_eq}
-use Rattle.std.proofs.lemmas.Slice.Eq.{bytes_eq-Decides}
 use Rattle.clap.specs.Lexer.{has_byte}
 use Rattle.clap.specs.Walk.{Names, answers_to, Row, Rule, arg_by_id, arg_by_long, at_row, has_row, used, more_values}
 use Rattle.clap.specs.Values.{reading_of}
@@ -120,12 +119,6 @@ by_id (flag m ∷ rest) n = go (bytes_eq m n) (by_id rest n)
         ≡ option_map rule_for (cond b (Some (flag m)) (named rest n))
     go true h = refl
     go false h = h
-
-pub same_bytes : (a b : Text) → bytes_eq a b ≡ true → a ≡ b
-same_bytes a b e = (bytes_eq-Decides a b).0 e
-
-pub bytes_same : (a : Text) → bytes_eq a a ≡ true
-bytes_same a = (bytes_eq-Decides a a).1 refl
 
 -- ---- rows
 

@@ -6,7 +6,8 @@ use Rattle.std.specs.Str.{bytes_eq}
 use Rattle.clap.specs.Walk.{Row, one_of, row_text}
 use Rattle.med_words.specs.Grammar.{Text, Opt, valued, flag, Use, alone, joined, apart, opt_of, Fits, is_used, value_in}
 use Rattle.med_words.specs.Matched.{HasRows, FlagRow, has_flag, has_valued}
-use Rattle.med_words.proofs.Rows.{rows, row_for, same_bytes, has_row_is}
+use Rattle.med_base.proofs.Bools.{same_bytes}
+use Rattle.med_words.proofs.Rows.{rows, row_for, has_row_is}
 use Rattle.med_words.proofs.After.{end_rows, row_at, row_other, row_kept, row_default, has_row_some}
 
 -- ---- the values

@@ -8,7 +8,7 @@ use Rattle.med_words.specs.Grammar.{Text, Opt, Use, Row as Command, Commands, op
 use Rattle.med_words.specs.Matched.{HasRows, FlagRow, has_flag, has_valued, main_rows, own_rows}
 use Rattle.med_words.specs.Said.{said_by, main_said_by}
 use Rattle.med_words.specs.Tables.{main_options, commands}
-use Rattle.med_words.proofs.Bools.{both, not_true}
+use Rattle.med_base.proofs.Bools.{both, not_true}
 
 -- what holds of each table holds of that of a command word
 pub of_each : (p : List Opt → Bool) (cs : Commands) → list_all (λ (c : Command). p c.1) cs ≡ true

@@ -15,7 +15,7 @@ use Rattle.med_words.specs.Matched.{has_flag}
 use Rattle.med_words.proofs.After.{IsClear}
 use Rattle.med_words.proofs.WholeLine.{names_in}
 use Rattle.med_words.proofs.FirstLook.{NamePasses}
-use Rattle.med_words.proofs.Bools.{both, not_true}
+use Rattle.med_base.proofs.Bools.{both, not_true}
 
 each : {A : Type 0} (P : A → Type 0) (p : A → Bool) → ((x : A) → p x ≡ true → P x)
     → (xs : List A) → list_all p xs ≡ true → AllByRecursion P xs

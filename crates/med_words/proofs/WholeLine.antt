@@ -9,7 +9,9 @@ use Rattle.clap.specs.Simple.{App, Shape, built, built_leaf, inherited, entered,
 use Rattle.med_words.specs.Grammar.{Text, Opt, Use, Commands, spelled, Fits, IsMet, IsLine}
 use Rattle.med_words.specs.Passes.{Passes}
 use Rattle.med_words.specs.Built.{line_app, sub_shape}
-use Rattle.med_words.proofs.Rows.{Level, leaf, rules, rules_filled, same_bytes}
+use Rattle.med_base.proofs.Bools.{same_bytes}
+use Rattle.med_base.proofs.Lists.{all_split}
+use Rattle.med_words.proofs.Rows.{Level, leaf, rules, rules_filled}
 use Rattle.med_words.proofs.After.{end_rows}
 use Rattle.med_words.proofs.Places.{tail_words, IsTail}
 use Rattle.med_words.proofs.Exact.{IsTable, LevelRead, level_read, level_all, at_end}
@@ -124,11 +126,6 @@ module _ (name : Text) (top : List Opt) (commands : Commands) (no_hyphen : (rest
       ∙ ap (λ (ns : Names). entered built_line (walk (rules top) ns nothing_held words).stopped)
       (names_are commands)
 
-  all_back : {X : Type 0} (P : X → Type 0) (xs ys : List X) → AllByRecursion P (xs ++ ys)
-      → AllByRecursion P ys
-  all_back P [] ys a = a
-  all_back P (x ∷ xs) ys a = all_back P xs ys a.1
-
   -- where the words stop at a command, its level decides
   below_is : (words rest : List Text) (l : Text × List Text) (c : Text × List Opt)
       → stop_of words ≡ Some (l.0, rest) → find (λ (d : Text × List Opt). bytes_eq d.0 l.0) commands
@@ -196,8 +193,8 @@ module _ (name : Text) (top : List Opt) (commands : Commands) (no_hyphen : (rest
                 let whole : words ≡ flat_map spelled r.uses ++ p.0 ∷ p.1 = r.words_are
                 ∙ ap (λ x. flat_map spelled r.uses ++ tail_words top_level top x) t in
                 let back : AllByRecursion Passes (p.0 ∷ p.1) =
-                all_back Passes (flat_map spelled r.uses) (p.0 ∷ p.1)
-                (subst (AllByRecursion Passes) whole passes) in
+                (all_split Passes (flat_map spelled r.uses) (p.0 ∷ p.1)
+                (subst (AllByRecursion Passes) whole passes)).1 in
                 let below = sym (below_is words p.1 k.0 c k.2 found).0 ∙ r.below_none in
                 let r2 = level_read (own_level c.0) c.1 (each p.0 c f) p.1 false [] back.1 below in
                 by_own whole r2 r2.tail refl

@@ -3,8 +3,8 @@ use Rattle.std.specs.List.{AllZip}
 use Rattle.std.proofs.lemmas.List.{map-append}
 use Rattle.serde_json.specs.Data.{Data}
 use Rattle.serde_json.specs.View.{view}
+use Rattle.med_base.proofs.Lists.{zip_next, zip_cut, map_around}
 use Rattle.med_manifest.specs.Named.{named, IsFile}
-use Rattle.med_manifest.proofs.Zips.{zip_next, zip_cut, map_around}
 use Rattle.med_manifest.proofs.shape.files_in.Goals as goal
 
 pub returns-in_default-clause-none : goal.returns-in_default-clause-none

@@ -1,9 +1,8 @@
-use Rattle.std.proofs.Common.{rules, ◌≡◌, List, Some, codes, map, sym, subst}
+use Rattle.std.proofs.Common.{rules, ◌≡◌, Some, codes, map}
 use Rattle.std.proofs.lemmas.Result.{IfOk-weaker}
-use Rattle.serde_json.specs.View.{view, items_view}
-use Rattle.serde_json.specs.declared.value.Value.{Value}
+use Rattle.serde_json.specs.View.{view}
+use Rattle.med_json.specs.Tree.{text_at, list_at}
 use Rattle.med_manifest.specs.Named.{named}
-use Rattle.med_manifest.specs.Tree.{text_at, list_at}
 use Rattle.med_manifest.proofs.TreeLemmas.{component_from, table_is, in_list, some_weaker}
 use Rattle.med_manifest.proofs.shape.table_in.Goals as goal
 
@@ -12,14 +11,10 @@ returns-clause-found c =
     let d = view c.args.value.now in
     let keyspace = c.in-Some.keyspace.now in
     let table = c.in-Some-text_in.table.now in
-    let list = c.as_slice.result.now in
+    let list = c.in-Some-list_in.list.now in
     let keyspace_is : text_at (codes "keyspace") d ≡ Some keyspace = search rules in
     let name_is : text_at (codes "columnfamily") d ≡ Some table = search rules in
-    let objects : list_at (codes "objects") d ≡ Some (items_view c.in-Some-list_in.list.now.items) =
-    search rules in
-    let objects_are : list_at (codes "objects") d ≡ Some (items_view list) =
-    subst (λ (vs : List Value). list_at (codes "objects") d ≡ Some (items_view vs))
-    (sym c.as_slice.ensures.value) objects in
+    let objects_are : list_at (codes "objects") d ≡ Some (map view list) = search rules in
     let keyspace_fits = component_from keyspace c.in_ok-is_component.field-0
     c.in_ok-is_component.ensures c.if-not-branch.false in
     let table_fits = component_from table c.in_ok-is_component-2.field-0
@@ -33,14 +28,10 @@ returns-clause-none c =
     let d = view c.args.value.now in
     let keyspace = c.in-Some.keyspace.now in
     let table = c.in-Some-text_in.table.now in
-    let list = c.as_slice.result.now in
+    let list = c.in-Some-list_in.list.now in
     let keyspace_is : text_at (codes "keyspace") d ≡ Some keyspace = search rules in
     let name_is : text_at (codes "columnfamily") d ≡ Some table = search rules in
-    let objects : list_at (codes "objects") d ≡ Some (items_view c.in-Some-list_in.list.now.items) =
-    search rules in
-    let objects_are : list_at (codes "objects") d ≡ Some (items_view list) =
-    subst (λ (vs : List Value). list_at (codes "objects") d ≡ Some (items_view vs))
-    (sym c.as_slice.ensures.value) objects in
+    let objects_are : list_at (codes "objects") d ≡ Some (map view list) = search rules in
     IfOk-weaker c.files_in.result _ _
     (λ o none e files is. none e files
     (in_list d keyspace table list files keyspace_is name_is objects_are is))

@@ -1,7 +1,8 @@
 use Rattle.std.proofs.Common.{arith, map, ◌∙◌}
 use Rattle.serde_json.specs.View.{view}
-use Rattle.med_ring.specs.Tree.{IsNumber}
-use Rattle.med_ring.proofs.Zips.{get_map, not_all, not_both}
+use Rattle.med_base.proofs.Bools.{not_both}
+use Rattle.med_base.proofs.Lists.{get_map, not_all}
+use Rattle.med_ring.specs.Token.{IsNumber}
 use Rattle.med_ring.proofs.host.are_numbers.Goals as goal
 
 pub returns-then-not-is_number : goal.returns-then-not-is_number

@@ -1,8 +1,9 @@
 use Rattle.std.proofs.Common.{◌≡◌, ◌∙◌, ◌++◌, ◌∷◌, [], ℤ, ap, arith, rules, sym, to_z, of_z, w64, FitsSigned}
 use Rattle.serde_json.specs.View.{view}
 use Rattle.med_ring.specs.Host.{IsInRange}
-use Rattle.med_ring.specs.Tree.{IsToken}
-use Rattle.med_ring.proofs.Zips.{zip_more, all_push, in_range}
+use Rattle.med_ring.specs.Token.{IsToken}
+use Rattle.med_base.proofs.Lists.{zip_next, all_push}
+use Rattle.med_ring.proofs.Cuts.{in_range}
 use Rattle.med_ring.proofs.host.read_tokens.Goals as goal
 
 pub loop-value-preserved : goal.loop-value-preserved
@@ -15,7 +16,7 @@ loop-value-preserved c =
     let range : IsInRange token = in_range token fits in
     record {
       are_tokens =
-          zip_more IsToken view c.args.numbers.now c.loop-value.tokens.items c.push.new.self.items
+          zip_next IsToken view c.args.numbers.now c.loop-value.tokens.items c.push.new.self.items
           c.loop-value.value-index c.value-item.result c.in-Some.token (omega arith) c.value-item.is
           c.loop-value.invariant.are_tokens (sym c.in-Some.ensures) more;
       in_range =

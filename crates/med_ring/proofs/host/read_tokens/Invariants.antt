@@ -2,7 +2,7 @@ use Rattle.std.proofs.Common.{map, take}
 use Rattle.std.specs.List.{AllZip}
 use Rattle.serde_json.specs.View.{view}
 use Rattle.med_ring.specs.Host.{AreInRange}
-use Rattle.med_ring.specs.Tree.{IsToken}
+use Rattle.med_ring.specs.Token.{IsToken}
 use Rattle.med_ring.proofs.host.read_tokens.Given as goal
 
 abbrev pub invariant-loop-value : goal.invariant-loop-value

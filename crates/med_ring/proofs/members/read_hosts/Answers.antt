@@ -9,7 +9,7 @@ use Rattle.serde_json.specs.View.{view, members_view}
 use Rattle.med_ring.specs.Host.{host_view}
 use Rattle.med_ring.specs.Members.{BlamesHost}
 use Rattle.med_ring.specs.Ring.{IsHost}
-use Rattle.med_ring.specs.Tree.{members_in}
+use Rattle.med_json.specs.Tree.{members_in}
 use Rattle.med_ring.proofs.MemberLemmas.{one_more, first_fault}
 use Rattle.med_ring.proofs.Repeated.{range_more}
 use Rattle.med_ring.proofs.Order.{read_rising}

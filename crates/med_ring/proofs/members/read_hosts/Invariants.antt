@@ -4,7 +4,7 @@ use Rattle.std.specs.Map.Iter.{deref_pair}
 use Rattle.serde_json.specs.View.{members_view}
 use Rattle.med_ring.specs.Host.{host_view, tokens_in, AreInRange}
 use Rattle.med_ring.specs.Ring.{IsHost}
-use Rattle.med_ring.specs.Tree.{members_in}
+use Rattle.med_json.specs.Tree.{members_in}
 use Rattle.med_ring.proofs.members.read_hosts.Given as goal
 
 -- the members so far are the hosts

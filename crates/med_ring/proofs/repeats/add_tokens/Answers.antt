@@ -2,7 +2,8 @@ use Rattle.std.proofs.Common.{◌≡◌, ◌∙◌, ◌+◌, ap, sym, arith, rul
 use Rattle.std.specs.HashSet.{contains}
 use Rattle.std.proofs.lemmas.Bool.Decides.{Decides-int_eq}
 use Rattle.indexmap.proofs.CallerLemmas.{Contains-list_any}
-use Rattle.med_ring.proofs.Zips.{cut_or, not_false}
+use Rattle.med_base.proofs.Bools.{not_false}
+use Rattle.med_ring.proofs.Cuts.{cut_or}
 use Rattle.med_ring.proofs.repeats.add_tokens.Goals as goal
 
 pub returns-then-not-is_new-clause-err : goal.returns-then-not-is_new-clause-err

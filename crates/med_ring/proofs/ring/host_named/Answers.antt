@@ -5,7 +5,8 @@ use Rattle.std.proofs.lemmas.List.{take_all}
 use Rattle.std.proofs.lemmas.Slice.Eq.{bytes_eq-Decides}
 use Rattle.med_ring.specs.declared.ring.Host.{Host}
 use Rattle.med_ring.specs.Host.{RingHost, host_view}
-use Rattle.med_ring.proofs.Zips.{contains_map, not_both}
+use Rattle.med_base.proofs.Bools.{not_both}
+use Rattle.med_base.proofs.Lists.{contains_map}
 use Rattle.med_ring.proofs.ring.host_named.Goals as goal
 
 pub returns-then-eq : goal.returns-then-eq

@@ -1,22 +1,26 @@
 use Rattle.std.proofs.Common.{rules, List, map, subst}
+use Rattle.std.proofs.lemmas.Result.{err_from_is_err_and}
 use Rattle.serde_json.specs.View.{view}
 use Rattle.med_manifest.specs.declared.shape.NamedFile.{NamedFile}
 use Rattle.med_manifest.specs.Named.{named, NamesFiles}
-use Rattle.med_manifest.specs.Refusals.{BlamesFiles, BlamesManifest, RefusesManifest}
-use Rattle.med_manifest.proofs.Refused.{refused, named_blamed}
+use Rattle.med_manifest.specs.Refusals.{BlamesFiles, BlamesManifest, RefusesManifest, of_json}
+use Rattle.med_manifest.proofs.Refused.{refused, text_blamed, named_blamed}
 use Rattle.med_manifest.proofs.manifest.Manifest.read.Goals as goal
 
 pub returns-in_err-value-clause-err : goal.returns-in_err-value-clause-err
 returns-in_err-value-clause-err c =
-    let blames : BlamesManifest c.args.layout.now c.args.node.now c.args.name.now c.args.bytes.now
-    c.in_err-value.field-0.0 = c.in_err-value.ensures.err _ _ _ in
-    search rules
+    let p = err_from_is_err_and c.from_residual.result
+    c.from_residual.ensures.1 in
+    rw (p.1, p.2) (text_blamed _ _ _ _ c.in_err-value.field-0.0 c.in_err-value.ensures.err)
 
 pub returns-in_err-value-clause-refused : goal.returns-in_err-value-clause-refused
 returns-in_err-value-clause-refused c =
-    let refuses : RefusesManifest c.args.layout.now c.args.node.now c.args.name.now c.args.bytes.now
-    c.in_err-value.field-0.0 = refused _ _ _ _ _ (c.in_err-value.ensures.err _ _ _) in
-    search rules
+    let p = err_from_is_err_and c.from_residual.result
+    c.from_residual.ensures.1 in
+    rw (p.1, p.2)
+    (refused c.args.layout.now c.args.node.now c.args.name.now c.args.bytes.now
+    (of_json c.in_err-value.field-0.0)
+    (text_blamed _ _ _ _ c.in_err-value.field-0.0 c.in_err-value.ensures.err))
 
 pub returns-in_err-named-clause-err : goal.returns-in_err-named-clause-err
 returns-in_err-named-clause-err c =

@@ -4,12 +4,27 @@ use Rattle.std.proofs.lemmas.Result.{err_from_is_err_and}
 use Rattle.serde_json.specs.View.{view, members_view}
 use Rattle.med_ring.specs.declared.ring.Host.{Host}
 use Rattle.med_ring.specs.Host.{host_view, tokens_in}
-use Rattle.med_ring.specs.Tree.{members_in}
+use Rattle.med_json.specs.Tree.{members_in}
+use Rattle.med_ring.specs.Blames.{of_json}
 use Rattle.med_ring.specs.Twice.{BlamesTokens}
 use Rattle.med_ring.proofs.Faults.{no_ring}
-use Rattle.med_ring.proofs.MemberLemmas.{blames_hosts, blames_tokens}
+use Rattle.med_ring.proofs.MemberLemmas.{text_blamed, blames_hosts, blames_tokens}
 use Rattle.med_ring.proofs.Order.{kept}
 use Rattle.med_ring.proofs.ring.Ring.read.Goals as goal
+
+pub returns-in_err-tree-clause-err : goal.returns-in_err-tree-clause-err
+returns-in_err-tree-clause-err c =
+    let p = err_from_is_err_and c.from_residual.result
+    c.from_residual.ensures.1 in
+    rw (p.1, p.2) (text_blamed c.args.bytes.now c.in_err-tree.field-0.0 c.in_err-tree.ensures.err)
+
+pub returns-in_err-tree-clause-refused : goal.returns-in_err-tree-clause-refused
+returns-in_err-tree-clause-refused c =
+    let p = err_from_is_err_and c.from_residual.result
+    c.from_residual.ensures.1 in
+    rw (p.1, p.2)
+    (no_ring c.args.bytes.now (of_json c.in_err-tree.field-0.0)
+    (text_blamed c.args.bytes.now c.in_err-tree.field-0.0 c.in_err-tree.ensures.err))
 
 pub returns-in_err-hosts-clause-refused : goal.returns-in_err-hosts-clause-refused
 returns-in_err-hosts-clause-refused c =
@@ -19,8 +34,7 @@ returns-in_err-hosts-clause-refused c =
     rw (p.1, p.2)
     (no_ring c.args.bytes.now err
     (blames_hosts c.args.bytes.now (view c.in_ok-tree.tree)
-    (members_view c.in-Some.members.now.entries) err c.in_ok-tree.ensures.ok.0
-    c.in_ok-tree.ensures.ok.1
+    (members_view c.in-Some.members.now.entries) err c.in_ok-tree.ensures.ok
     (sym c.in-Some.ensures) c.in_err-hosts.ensures.err))
 
 pub returns-in_err-check_tokens-clause-refused : goal.returns-in_err-check_tokens-clause-refused
@@ -34,8 +48,7 @@ returns-in_err-check_tokens-clause-refused c =
     (no_ring c.args.bytes.now err
     (blames_tokens c.args.bytes.now (view c.in_ok-tree.tree)
     (members_view c.in-Some.members.now.entries) (map host_view c.in_ok-hosts.hosts.items) err
-    c.in_ok-tree.ensures.ok.0 c.in_ok-tree.ensures.ok.1 (sym c.in-Some.ensures)
-    c.in_ok-hosts.ensures.ok blames))
+    c.in_ok-tree.ensures.ok (sym c.in-Some.ensures) c.in_ok-hosts.ensures.ok blames))
 
 pub invariant_of-result : goal.invariant_of-result
 invariant_of-result c =
