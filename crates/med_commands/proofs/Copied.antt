@@ -22,7 +22,9 @@ use Rattle.med_commands.specs.Answers.{CanBeCopied, IsCopied, IsCutShort}
 use Rattle.med_commands.specs.Copies.{Copy, key_of, put_of, records_of, backup_puts, AreOf, AreCopies, IsBegun}
 use Rattle.med_commands.specs.Placing.{PlacesAll, PlacesSome, MayStore}
 use Rattle.med_commands.specs.Taken.{IsFree}
-use Rattle.med_commands.proofs.Lists.{map-append, all_with, all_unmap, all_back}
+use Rattle.std.proofs.lemmas.List.{map-append}
+use Rattle.med_base.proofs.Lists.{all_split}
+use Rattle.med_commands.proofs.Lists.{all_with, all_unmap}
 use Rattle.med_commands.proofs.Placed.{none_of, of_both}
 
 pub told_with : {A : Type 0} (held : Option A) (P Q : A → Type 0) → ((s : A) → P s → Q s)
@@ -117,7 +119,8 @@ back_have : (held : Option Snapshot) (order ks js : List FileKey) → order ≡ 
     → IfSome held (λ s. AllByRecursion (λ k. HasKey k s) order)
     → IfSome held (λ s. AllByRecursion (λ k. HasKey k s) js)
 back_have held order ks js cut all = told_with held _ _
-    (λ s h. all_back (λ k. HasKey k s) ks js (subst (AllByRecursion (λ k. HasKey k s)) cut h)) all
+    (λ s h. (all_split (λ k. HasKey k s) ks js
+    (subst (AllByRecursion (λ k. HasKey k s)) cut h)).1) all
 
 module _ (before f n : List ℕ) (held : Option Snapshot) where
   -- what was copied so far, with what is left, is a copy of the whole snapshot

@@ -1,10 +1,10 @@
 -- Where the cause of a status stands, no answer of another one fits, but those of counts and memory.
-use Rattle.std.proofs.Common.{◌≡◌, ◌⊎◌, inl, inr, ℕ, zero, suc, Bool, true, false, List, [], ◌∷◌, Option, Some, None, IfSome, refl, sym, ◌∙◌, ap, subst, slice_get}
-use Rattle.std.specs.List.{AllByRecursion}
-use Rattle.med_base.specs.declared.key.FileKey.{FileKey}
+use Rattle.std.proofs.Common.{◌≡◌, ◌⊎◌, inl, inr, ℕ, true, false, List, [], Option, Some, None, IfSome, refl, sym, ◌∙◌, ap, subst}
 use Rattle.med_base.specs.Content.{Content, Object, objects_under}
 use Rattle.med_base.specs.Key.{IsKey}
 use Rattle.med_base.specs.Layout.{backup_folder}
+use Rattle.med_base.proofs.Bools.{not_both}
+use Rattle.med_base.proofs.Lists.{not_all}
 use Rattle.med_outside.specs.Snapshot.{Snapshot}
 use Rattle.med_words.specs.Request.{Asked}
 use Rattle.med_commands.specs.Exact.{IsAskedOver, Cause, EndsBy}
@@ -18,18 +18,9 @@ use Rattle.med_commands.specs.declared.status.Status.{Status}
 use Rattle.med_commands.specs.declared.status.Status.TheVariants as status
 use Rattle.med_commands.proofs.OneSite.{one_site, not_refused}
 
-all_at : (P : FileKey → Type 0) (xs : List FileKey) (i : ℕ) (x : FileKey) → AllByRecursion P xs
-    → slice_get xs i ≡ Some x → P x
-all_at P [] i x all e = let bad : None ≡ Some x = e in cc bad
-all_at P (y ∷ ys) zero x all e = subst P (let same : Some y ≡ Some x = e in cc same) all.0
-all_at P (y ∷ ys) (suc i) x all e = all_at P ys i x all.1 e
-
 -- a snapshot that can be walked has no bad key
 no_bad : (s : Snapshot) (at : ℕ) → CanBeWalked s → IsFirstBad at s.order → ⊥
-no_bad s at walked bad = bad.bad (all_at IsKey s.order at bad.key walked.names bad.stands)
-
-both_ways : (b : Bool) → b ≡ true → b ≡ false → ⊥
-both_ways b t f = let bad : true ≡ false = sym t ∙ f in cc bad
+no_bad s at walked bad = not_all IsKey s.order at bad.key bad.stands bad.bad walked.names
 
 no_path : (path : List ℕ) (objects : List (List ℕ × Object)) → objects ≡ []
     → Some path ≡ first_path objects → ⊥
@@ -41,7 +32,7 @@ module _ (asked : Asked) (a : Around) where
   built_of s n asks = ap is_built asks.action
 
   unbuilt_over : (s : Snapshot) → IsAskedOver asked a s → is_built asked.action ≡ false → ⊥
-  unbuilt_over s over f = both_ways (is_built asked.action) (built_of over.site over.name over.asks) f
+  unbuilt_over s over f = not_both (is_built asked.action) f (built_of over.site over.name over.asks)
 
   -- a fact on the snapshot that another site and name have is one on the snapshot of these
   moved : (s : Snapshot) (over : IsAskedOver asked a s) (site : Site) (n : List ℕ)
@@ -77,7 +68,7 @@ module _ (asked : Asked) (a : Around) where
       → s ≡ status.Done
   backed says status.Done c b = refl
   backed says status.Usage c b =
-      absurd (both_ways (is_built asked.action) (built_of b.site b.name b.asks) c)
+      absurd (not_both (is_built asked.action) c (built_of b.site b.name b.asks))
   backed says status.Config c b =
       absurd (not_refused a.files asked c.file c.file_is c.fault b.asks.config b.asks.configured
       c.refused)
@@ -94,7 +85,7 @@ module _ (asked : Asked) (a : Around) where
   unbuilt : (s : Status) → Cause asked a s → is_built asked.action ≡ false → s ≡ status.Usage
   unbuilt status.Done c f = absurd (unbuilt_over c.snapshot c.over f)
   unbuilt status.Usage c f = refl
-  unbuilt status.Config c f = absurd (both_ways (is_built asked.action) c.built f)
+  unbuilt status.Config c f = absurd (not_both (is_built asked.action) f c.built)
   unbuilt status.Taken c f = absurd (unbuilt_over c.snapshot c.over f)
   unbuilt status.BadSnapshot c f = absurd (unbuilt_over c.snapshot c.over f)
   unbuilt status.ReadFault c f = absurd c
@@ -111,7 +102,7 @@ module _ (asked : Asked) (a : Around) where
   refused : (says : List ℕ → Type 0) (s : Status) → Cause asked a s → HasBadConfig asked a says
       → s ≡ status.Config
   refused says status.Done c b = absurd (refused_over says c.snapshot c.over b)
-  refused says status.Usage c b = absurd (both_ways (is_built asked.action) b.built c)
+  refused says status.Usage c b = absurd (not_both (is_built asked.action) c b.built)
   refused says status.Config c b = refl
   refused says status.Taken c b = absurd (refused_over says c.snapshot c.over b)
   refused says status.BadSnapshot c b = absurd (refused_over says c.snapshot c.over b)
@@ -126,7 +117,7 @@ module _ (asked : Asked) (a : Around) where
       absurd (no_path b.path _ c.folder (folder_moved c.snapshot c.over c.content c.content_is
       b.site b.name b.asks (λ objects. Some b.path ≡ first_path objects) b.first))
   taken says status.Usage c b =
-      absurd (both_ways (is_built asked.action) (built_of b.site b.name b.asks) c)
+      absurd (not_both (is_built asked.action) c (built_of b.site b.name b.asks))
   taken says status.Config c b =
       absurd (not_refused a.files asked c.file c.file_is c.fault b.asks.config b.asks.configured
       c.refused)
@@ -156,7 +147,7 @@ module _ (asked : Asked) (a : Around) where
       → HasBadSnapshot asked a says → s ≡ status.BadSnapshot
   bad_snapshot says status.Done c b = absurd (bad_over says c.snapshot c.over c.walked b)
   bad_snapshot says status.Usage c b =
-      absurd (both_ways (is_built asked.action) (built_of b.site b.name b.asks) c)
+      absurd (not_both (is_built asked.action) c (built_of b.site b.name b.asks))
   bad_snapshot says status.Config c b =
       absurd (not_refused a.files asked c.file c.file_is c.fault b.asks.config b.asks.configured
       c.refused)

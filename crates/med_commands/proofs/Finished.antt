@@ -18,7 +18,7 @@ use Rattle.med_outside.specs.Snapshot.{Snapshot}
 use Rattle.med_commands.specs.Backup.{HoldsBytes, IsFileOf, IsBackupOf, AddsAt, paths_of, IsFinished}
 use Rattle.med_commands.specs.Copies.{Copy, key_of, put_of, records_of, backup_puts}
 use Rattle.med_commands.proofs.Apart.{own_under, meta_under, own_or_meta, schema_or_manifest, later_apart, meta_apart}
-use Rattle.med_commands.proofs.Lists.{all_append}
+use Rattle.med_base.proofs.Lists.{all_append}
 use Rattle.med_commands.proofs.Stands.{NoneHas, path_of, stays, put_stays, last_put}
 
 -- an object of these bytes stands under the own path of the file

@@ -15,7 +15,9 @@ use Rattle.med_outside.specs.Storage.{MayPut}
 use Rattle.med_outside.proofs.Passing.{moves_on}
 use Rattle.med_commands.specs.Copies.{Copy, key_of, put_of, record_of, AreOf}
 use Rattle.med_commands.specs.Placing.{Places, PlacesAll, PlacesOne, PlacesSome}
-use Rattle.med_commands.proofs.Lists.{all_append, all_at, map-append}
+use Rattle.std.proofs.lemmas.List.{map-append}
+use Rattle.med_base.proofs.Lists.{all_append}
+use Rattle.med_commands.proofs.Lists.{all_at}
 
 pub none_of : (held : Option Snapshot) → AreOf held []
 none_of None = tt

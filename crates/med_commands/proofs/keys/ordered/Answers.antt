@@ -4,7 +4,8 @@ use Rattle.std.specs.BTreeMap.{insert_entry}
 use Rattle.med_base.specs.Key.{IsKey, key_cmp}
 use Rattle.med_outside.specs.Snapshot.{raw_name}
 use Rattle.med_commands.proofs.KeyLists.{nothing_yet, next_key}
-use Rattle.med_commands.proofs.Lists.{take_map, get_map, all_push}
+use Rattle.med_base.proofs.Lists.{get_map, all_push}
+use Rattle.med_commands.proofs.Lists.{take_map}
 use Rattle.med_commands.proofs.keys.ordered.Goals as goal
 
 pub loop-at-init : goal.loop-at-init
