@@ -114,11 +114,19 @@ fn the_first_check_that_fails_decides(rt: HostRuntime) -> Result<(), Fail> {
             "missing option base_path",
         ),
         (
+            "[storage]\nstorage_provider = local\nbase_path =\nbucket_name = k\n",
+            "missing option base_path",
+        ),
+        (
             "[storage]\nstorage_provider = local\nbase_path = a\0\n",
             "bad name base_path",
         ),
         (
             "[storage]\nstorage_provider = local\nbase_path = /b\n",
+            "missing option bucket_name",
+        ),
+        (
+            "[storage]\nstorage_provider = local\nbase_path = /b\nbucket_name =\nfqdn = n1\n",
             "missing option bucket_name",
         ),
         (
@@ -135,6 +143,10 @@ fn the_first_check_that_fails_decides(rt: HostRuntime) -> Result<(), Fail> {
         ),
         (
             "[storage]\nstorage_provider = local\nbase_path = /b\nbucket_name = k\n",
+            "missing option fqdn",
+        ),
+        (
+            "[storage]\nstorage_provider = local\nbase_path = /b\nbucket_name = k\nfqdn =\n",
             "missing option fqdn",
         ),
         (
