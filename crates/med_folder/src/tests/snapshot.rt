@@ -111,3 +111,17 @@ fn a_node_without_a_folder_has_no_keys_and_no_schema(rt: HostRuntime) -> Result<
     );
     Ok(())
 }
+
+#[test]
+fn a_folder_that_cant_be_read_is_a_fault(rt: HostRuntime) -> Result<(), Fail> {
+    let alloc = rt.alloc();
+    make_folders(&rt, "nodes/n3")?;
+    symlink(&rt, "data", "nodes/n3/data")?;
+    let mut nodes = FolderNodes::new(rt);
+    let node = Fqdn::read(alloc, "n3")?;
+    let mut snap = nodes.open(alloc, "nodes", &node, "medusa-b1")?;
+    let is_fault = matches!(snap.keys(alloc), Err(Denied::Failed));
+    nodes.close(snap);
+    assert_eq!(rt; is_fault, true);
+    Ok(())
+}
