@@ -1,14 +1,16 @@
 -- A backup after calls that changed no content.
-use Rattle.std.proofs.Common.{◌≡◌, ◌⊎◌, ◌≤◌, ◌+◌, ◌-◌, ◌^◌, inl, min, refl, ℕ, List, [], Option, Result, IfOk, IfErr, OnOk, Ok, Err, ◌∙◌, subst, arith}
+use Rattle.std.proofs.Common.{◌≡◌, ◌⊎◌, ◌≤◌, ◌+◌, ◌-◌, ◌^◌, inl, inr, min, refl, ℕ, List, [], Option, IfSome, Result, IfOk, IfErr, OnOk, Ok, Err, ◌∙◌, subst, arith}
 use Rattle.med_base.specs.declared.key.FileKey.{FileKey}
 use Rattle.med_base.specs.Content.{Content}
 use Rattle.med_manifest.specs.declared.manifest.FileRecord.{FileRecord}
 use Rattle.med_outside.specs.Snapshot.{Snapshot}
 use Rattle.med_outside.specs.State.{State, Passes, Moves}
 use Rattle.med_outside.proofs.Passing.{moves_on, after_all-nothing}
-use Rattle.med_commands.specs.Answers.{IsCaused, IsCausedOf, IsFound, IsCopied, IsMade, IsCutShort, Leaves}
+use Rattle.med_commands.specs.Answers.{IsCaused, IsCausedOf, IsFound, IsCopied, IsMade, IsCutShort, BlamesLook, Leaves}
 use Rattle.med_commands.specs.Copies.{backup_puts}
+use Rattle.med_commands.specs.Site.{Site, BlamesAt}
 use Rattle.med_commands.specs.Taken.{IsFree}
+use Rattle.med_commands.specs.Walked.{CanBeWalked}
 use Rattle.med_commands.specs.declared.place.CopyFault.{CopyFault}
 use Rattle.med_commands.specs.declared.place.CopyFault.TheVariants.{Snap, Store, Memory}
 use Rattle.med_commands.specs.declared.look.Refusal.{Refusal}
@@ -125,3 +127,27 @@ module _ (before f n : List ℕ) (held : Option Snapshot) where
   leaves_after s0 s1 s2 p0 p1 p2 first (Taken path) moves = moves_on [] [] s0 s1 s2 p0 p1 p2 first
       moves
   leaves_after s0 s1 s2 p0 p1 p2 first (Fault fault) cut = cut_after s0 s1 s2 p0 p1 p2 first cut
+
+-- ---- why a backup was refused
+
+-- a fault of the copying comes only where the keys of the snapshot are names of files
+pub blames_copy : (before f n : List ℕ) (held : Option Snapshot) (told : Option Content)
+    → IfSome held CanBeWalked → (fault : CopyFault)
+    → BlamesLook before f n held told (Fault fault)
+blames_copy before f n held told walked Snap = tt
+blames_copy before f n held told walked Store = walked
+blames_copy before f n held told walked Memory = tt
+
+-- the same refusal where the bucket was opened before
+pub blames_at : (site : Site) (n : List ℕ) (held : Option Snapshot) (old mid new : State)
+    → mid.content ≡ old.content → (refusal : Refusal)
+    → BlamesLook site.before site.node n held mid.content refusal
+    → BlamesAt site n held old new refusal
+blames_at site n held old mid new same NoSnapshot blames = blames
+blames_at site n held old mid new same (BadFileName at) blames = blames
+blames_at site n held old mid new same (Taken path) blames =
+    subst (λ (c : Option Content). BlamesLook site.before site.node n held c (Taken path)) same
+    blames
+blames_at site n held old mid new same (Fault Snap) blames = tt
+blames_at site n held old mid new same (Fault Store) blames = inr blames
+blames_at site n held old mid new same (Fault Memory) blames = tt

@@ -13,14 +13,14 @@ use Rattle.med_outside.specs.Snapshot.{Snapshot}
 use Rattle.med_outside.specs.State.{State, Passes, Moves, terms_of}
 use Rattle.med_outside.proofs.Passing.{passes_from_terms}
 use Rattle.med_words.specs.Request.{Asked}
-use Rattle.med_commands.specs.Answers.{IsMade, IsCutShort, BlamesLook, IsCausedOf}
+use Rattle.med_commands.specs.Answers.{IsMade, IsCutShort, IsCausedOf}
 use Rattle.med_commands.specs.Backup.{IsFinished, IsBackupOf}
 use Rattle.med_commands.specs.Ends.{IsFaultOf, IsUnprinted, IsEndOf}
 use Rattle.med_commands.specs.Copies.{Copy, key_of, records_of, backup_puts, AreOf}
 use Rattle.med_commands.specs.Fault.{fault_for}
 use Rattle.med_commands.specs.Headline.{Stream, Around, Asks, is_built, IfTold, IsDone, HasMoments}
 use Rattle.med_commands.specs.Report.{report_line}
-use Rattle.med_commands.specs.Site.{Site, opened_at, snap_at, LeavesAt}
+use Rattle.med_commands.specs.Site.{Site, opened_at, snap_at, BlamesAt, LeavesAt}
 use Rattle.med_commands.specs.declared.fault.Fault.{Fault}
 use Rattle.med_commands.specs.declared.fault.Fault.TheVariants.{Usage, NotBuilt, Config, Taken, Read, Storage, Write, NoSnapshot, BadFileName, Memory}
 use Rattle.med_commands.specs.declared.look.Refusal.{Refusal}
@@ -201,7 +201,7 @@ module _ (asked : Asked) (a : Around) (past since : ℕ → Content → Type 0) 
     untouched (inr moves) = opened_untouched moves
 
     pub fault_of_refusal : (r : Refusal) → Asks a.files asked site n
-        → BlamesLook site.before site.node n (snap_at a.snaps site n) a.old.content r
+        → BlamesAt site n (snap_at a.snaps site n) a.old a.new r
         → LeavesAt site n (snap_at a.snaps site n) a.old a.new past since r
         → IsCausedOf a.nodes_before a.nodes_now a.old.faults a.new.faults r
         → IsFaultOf asked a past since (fault_for n r)
@@ -212,9 +212,9 @@ module _ (asked : Asked) (a : Around) (past since : ℕ → Content → Type 0) 
     fault_of_refusal (refusal.Taken path) asks blames left caused =
         (site, asks, blames.0, blames.1, untouched left)
     fault_of_refusal (refusal.Fault fault.Snap) asks blames left caused =
-        (asked_is_built asks, inr caused)
+        (asked_is_built asks, inr (record { site = site; name = n; asks = asks }, caused))
     fault_of_refusal (refusal.Fault fault.Store) asks blames left caused =
-        (record { site = site; name = n; asks = asks }, caused)
+        record { site = site; name = n; asks = asks; rose = caused; stage = blames }
     fault_of_refusal (refusal.Fault fault.Memory) asks blames left caused = asked_is_built asks
 
     -- the backup was made, and its line wasn't printed whole

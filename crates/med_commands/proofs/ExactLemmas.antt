@@ -1,14 +1,16 @@
--- Where the cause of a status stands, no answer of another one fits, but those of counts and memory.
+-- Where the cause of a status stands, no answer of another one fits, but those of counts and of
+-- memory.
 use Rattle.std.proofs.Common.{◌≡◌, ◌⊎◌, inl, inr, ℕ, true, false, List, [], Option, Some, None, IfSome, refl, sym, ◌∙◌, ap, subst}
 use Rattle.med_base.specs.Content.{Content, Object, objects_under}
 use Rattle.med_base.specs.Key.{IsKey}
 use Rattle.med_base.specs.Layout.{backup_folder}
 use Rattle.med_base.proofs.Bools.{not_both}
 use Rattle.med_base.proofs.Lists.{not_all}
+use Rattle.med_outside.specs.Causes.{Rose}
 use Rattle.med_outside.specs.Snapshot.{Snapshot}
 use Rattle.med_words.specs.Request.{Asked}
-use Rattle.med_commands.specs.Exact.{IsAskedOver, Cause, EndsBy}
-use Rattle.med_commands.specs.Headline.{Stream, Around, Asks, is_built, IsBackedUp, HasBadConfig, IsTaken, HasBadSnapshot, Answers}
+use Rattle.med_commands.specs.Exact.{HasNoConfig, IsAskedOver, Cause, ReadInstead, StoredInstead, EndsBy}
+use Rattle.med_commands.specs.Headline.{Stream, Around, Asks, is_built, IsBackedUp, HasBadConfig, IsTaken, HasBadSnapshot, IsReadFault, IsStorageFault, Answers}
 use Rattle.med_commands.specs.Site.{Site, snap_at}
 use Rattle.med_commands.specs.Status.{IsCodeOf}
 use Rattle.med_commands.specs.Taken.{first_path}
@@ -32,7 +34,8 @@ module _ (asked : Asked) (a : Around) where
   built_of s n asks = ap is_built asks.action
 
   unbuilt_over : (s : Snapshot) → IsAskedOver asked a s → is_built asked.action ≡ false → ⊥
-  unbuilt_over s over f = not_both (is_built asked.action) f (built_of over.site over.name over.asks)
+  unbuilt_over s over f =
+      not_both (is_built asked.action) f (built_of over.site over.name over.asks)
 
   -- a fact on the snapshot that another site and name have is one on the snapshot of these
   moved : (s : Snapshot) (over : IsAskedOver asked a s) (site : Site) (n : List ℕ)
@@ -70,8 +73,7 @@ module _ (asked : Asked) (a : Around) where
   backed says status.Usage c b =
       absurd (not_both (is_built asked.action) c (built_of b.site b.name b.asks))
   backed says status.Config c b =
-      absurd (not_refused a.files asked c.file c.file_is c.fault b.asks.config b.asks.configured
-      c.refused)
+      absurd (c.none b.asks.config b.asks.configured)
   backed says status.Taken c b =
       absurd (c.folder (folder_moved c.snapshot c.over c.content c.content_is b.site b.name b.asks
       (λ objects. objects ≡ []) b.done.was_free))
@@ -119,8 +121,7 @@ module _ (asked : Asked) (a : Around) where
   taken says status.Usage c b =
       absurd (not_both (is_built asked.action) c (built_of b.site b.name b.asks))
   taken says status.Config c b =
-      absurd (not_refused a.files asked c.file c.file_is c.fault b.asks.config b.asks.configured
-      c.refused)
+      absurd (c.none b.asks.config b.asks.configured)
   taken says status.Taken c b = refl
   taken says status.BadSnapshot c b =
       absurd (c.bad (moved c.snapshot c.over b.site b.name b.asks CanBeWalked b.walked))
@@ -149,14 +150,54 @@ module _ (asked : Asked) (a : Around) where
   bad_snapshot says status.Usage c b =
       absurd (not_both (is_built asked.action) c (built_of b.site b.name b.asks))
   bad_snapshot says status.Config c b =
-      absurd (not_refused a.files asked c.file c.file_is c.fault b.asks.config b.asks.configured
-      c.refused)
+      absurd (c.none b.asks.config b.asks.configured)
   bad_snapshot says status.Taken c b = absurd (bad_over says c.snapshot c.over c.walked b)
   bad_snapshot says status.BadSnapshot c b = refl
   bad_snapshot says status.ReadFault c b = absurd c
   bad_snapshot says status.StorageFault c b = absurd c
   bad_snapshot says status.WriteFault c b = absurd c
   bad_snapshot says status.Memory c b = absurd c
+
+  -- ---- faults, against each cause
+
+  -- the nodes can't fail where there is no configuration
+  files_rose : HasNoConfig asked a → IsReadFault asked a → Rose a.files_before a.files_now
+  files_rose c (inl rose) = rose
+  files_rose c (inr (some, rose)) = absurd (c.none some.asks.config some.asks.configured)
+
+  either_rose : IsReadFault asked a
+      → Rose a.files_before a.files_now ⊎ Rose a.nodes_before a.nodes_now
+  either_rose (inl rose) = inl rose
+  either_rose (inr (some, rose)) = inr rose
+
+  read : (s : Status) → Cause asked a s → is_built asked.action ≡ true → IsReadFault asked a
+      → ReadInstead s a
+  read status.Done c built why = either_rose why
+  read status.Usage c built why = not_both (is_built asked.action) c built
+  read status.Config c built why = files_rose c why
+  read status.Taken c built why = either_rose why
+  read status.BadSnapshot c built why = either_rose why
+  read status.ReadFault c built why = c
+  read status.StorageFault c built why = c
+  read status.WriteFault c built why = c
+  read status.Memory c built why = c
+
+  stored : (s : Status) → Cause asked a s → IsStorageFault asked a → StoredInstead s a
+  stored status.Done c b = b.rose
+  stored status.Usage c b = not_both (is_built asked.action) c (built_of b.site b.name b.asks)
+  stored status.Config c b = c.none b.asks.config b.asks.configured
+  stored status.Taken c b = b.rose
+  stored status.BadSnapshot c b = go b.stage
+    where
+      go : (a.new.terms ≡ a.old.terms) ⊎ IfSome (snap_at a.snaps b.site b.name) CanBeWalked
+          → Rose a.old.faults a.new.faults × (a.new.terms ≡ a.old.terms)
+      go (inl same) = (b.rose, same)
+      go (inr walked) =
+          absurd (c.bad (moved c.snapshot c.over b.site b.name b.asks CanBeWalked walked))
+  stored status.ReadFault c b = c
+  stored status.StorageFault c b = c
+  stored status.WriteFault c b = c
+  stored status.Memory c b = c
 
   -- ---- all answers
 
@@ -167,8 +208,8 @@ module _ (asked : Asked) (a : Around) where
     ends_by s status.Usage c answer = unbuilt s c answer.0
     ends_by s status.Config c answer = refused _ s c answer.0
     ends_by s status.Taken c answer = taken _ s c answer.0
-    ends_by s status.ReadFault c answer = answer.1
-    ends_by s status.StorageFault c answer = answer.1
+    ends_by s status.ReadFault c answer = read s c answer.0 answer.1
+    ends_by s status.StorageFault c answer = stored s c answer.0
     ends_by s status.WriteFault c answer = (backed _ s c answer.0, answer.1)
     ends_by s status.BadSnapshot c answer = bad_snapshot _ s c answer.0
     ends_by s status.Memory c answer = tt

@@ -40,7 +40,7 @@ module _ (asked : Asked) (a : Around) (past since : ℕ → Content → Type 0) 
     why.4,
   )
   answer_of Read (why, same) said = (why.0, why.1, (said, same))
-  answer_of Storage (why, same) said = (why.0, why.1, (said, same))
+  answer_of Storage (why, same) said = (why, (said, same))
   answer_of Write (backed, rose) said = (backed, rose, said)
   answer_of (NoSnapshot name) (why, same) said =
       (record { site = why.0; name = name; asks = why.1; why = inl (why.2, (said, same)) }, why.3)

@@ -42,13 +42,16 @@ pub record IsFound (before f n : List ℕ) (held : Option Snapshot) (told : Opti
   pub walked : IfSome held CanBeWalked
   pub was_free : IsFree before f n told
 
--- why a backup is refused before it puts anything
+-- why a backup is refused; a fault of the storage comes only where the keys of the snapshot are
+-- names of files
 abbrev pub BlamesLook : (before f n : List ℕ) → Option Snapshot → Option Content → Refusal → Type 0
 BlamesLook before f n held told NoSnapshot = IfSome held (λ s. s.order ≡ [])
 BlamesLook before f n held told (BadFileName at) = IfSome held (λ s. IsFirstBad at s.order)
 BlamesLook before f n held told (Taken path) =
     IfSome held CanBeWalked × IsFirstUnder (backup_folder before f n) told (Some path)
-BlamesLook before f n held told (Fault fault) = Unit {0}
+BlamesLook before f n held told (Fault Snap) = Unit {0}
+BlamesLook before f n held told (Fault Store) = IfSome held CanBeWalked
+BlamesLook before f n held told (Fault Memory) = Unit {0}
 
 -- the same for the fault of a refusal
 abbrev pub IsCausedOf : (read_before read_now store_before store_now : ℕ) → Refusal → Type 0

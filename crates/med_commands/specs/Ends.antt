@@ -1,10 +1,10 @@
 -- Why a command ended without its work or its line.
-use Rattle.std.specs.Prelude.{◌≡◌, ◌⊎◌, ℕ, List, [], Some, true, false, IfSome}
+use Rattle.std.specs.Prelude.{◌≡◌, ℕ, List, [], Some, true, false, IfSome}
 use Rattle.med_base.specs.Content.{Content}
 use Rattle.med_base.specs.Layout.{backup_folder}
 use Rattle.med_outside.specs.Causes.{Rose}
 use Rattle.med_words.specs.Request.{Asked, word_of}
-use Rattle.med_commands.specs.Headline.{Stream, Around, Asks, AsksSome, is_built, IsBackedUp, Untouched}
+use Rattle.med_commands.specs.Headline.{Stream, Around, Asks, is_built, IsBackedUp, IsReadFault, IsStorageFault, Untouched}
 use Rattle.med_commands.specs.Loaded.{IsRefused}
 use Rattle.med_commands.specs.Printed.{WrotePart}
 use Rattle.med_commands.specs.Site.{Site, snap_at}
@@ -24,10 +24,8 @@ IsFaultOf asked a past since (Taken name path) =
     (site : Site) × Asks a.files asked site name × IfSome (snap_at a.snaps site name) CanBeWalked
     × IsFirstUnder (backup_folder site.before site.node name) a.old.content (Some path)
     × Untouched a past since
-IsFaultOf asked a past since Read =
-    (is_built asked.action ≡ true)
-    × (Rose a.files_before a.files_now ⊎ Rose a.nodes_before a.nodes_now)
-IsFaultOf asked a past since Storage = AsksSome a.files asked × Rose a.old.faults a.new.faults
+IsFaultOf asked a past since Read = (is_built asked.action ≡ true) × IsReadFault asked a
+IsFaultOf asked a past since Storage = IsStorageFault asked a
 IsFaultOf asked a past since Write = ⊥
 IsFaultOf asked a past since (NoSnapshot name) =
     (site : Site) × Asks a.files asked site name

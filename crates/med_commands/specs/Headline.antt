@@ -96,7 +96,7 @@ pub record AsksSome (files : Told) (asked : Asked) : Type 0 where
 
 -- ---- what the statuses say
 
--- both contents are told, and this holds of them
+-- where both contents are told, this holds of them
 abbrev pub IfTold : Option Content → Option Content → (Content → Content → Type 0) → Type 0
 IfTold old new P = IfSome old (λ c. IfSome new (λ d. P c d))
 
@@ -148,6 +148,21 @@ pub record HasBadSnapshot (asked : Asked) (a : Around) (says : List ℕ → Type
       ⊎ ((at : ℕ) × IfSome (snap_at a.snaps site name) (λ s. IsFirstBad at s.order)
       × says (bad_file_text at))
 
+-- why a read fault is told: the count of the files rose; or a backup is asked for, at the site that
+-- the config file gives, and the count of the nodes rose
+abbrev pub IsReadFault : Asked → Around → Type 0
+IsReadFault asked a =
+    Rose a.files_before a.files_now ⊎ (AsksSome a.files asked × Rose a.nodes_before a.nodes_now)
+
+-- Why a storage fault is told: a backup is asked for, and the count of the storage rose. The bucket
+-- isn't open yet, or the keys of the snapshot are names of files.
+pub record IsStorageFault (asked : Asked) (a : Around) : Type 0 where
+  pub site : Site
+  pub name : List ℕ
+  pub asks : Asks a.files asked site name
+  pub rose : Rose a.old.faults a.new.faults
+  pub stage : (a.new.terms ≡ a.old.terms) ⊎ IfSome (snap_at a.snaps site name) CanBeWalked
+
 -- no content changed
 abbrev pub Untouched : Around → (past since : ℕ → Content → Type 0) → Type 0
 Untouched a past since = Passes [] a.old a.new past since
@@ -170,13 +185,10 @@ Answers asked a past since out err status.Taken =
     IsTaken asked a (Tells out err) × Untouched a past since
 -- 7: the count of the files or of the nodes rose
 Answers asked a past since out err status.ReadFault =
-    (is_built asked.action ≡ true)
-    × (Rose a.files_before a.files_now ⊎ Rose a.nodes_before a.nodes_now)
-    × Tells out err (codes "read fault")
+    (is_built asked.action ≡ true) × IsReadFault asked a × Tells out err (codes "read fault")
 -- 8: the count of the storage rose
 Answers asked a past since out err status.StorageFault =
-    AsksSome a.files asked × Rose a.old.faults a.new.faults
-    × Tells out err (codes "storage fault")
+    IsStorageFault asked a × Tells out err (codes "storage fault")
 -- 10: as at 0, but that a proper prefix of the line was written and the count of the output rose
 Answers asked a past since out err status.WriteFault =
     IsBackedUp asked a (λ line. WrotePart line out.old out.new)

@@ -2,7 +2,7 @@
 ghost use Rattle.std.specs.Prelude.{◌≡◌, ◌≤◌, IfOk, IfErr};
 ghost use Rattle.med_outside.specs.Counts.{AreClosed};
 ghost use Rattle.med_commands.specs.Answers.{IsMade, Leaves, BlamesLook, IsCausedOf};
-ghost use Rattle.med_commands.specs.Site.{site_of, opened_at, snap_at, LeavesAt};
+ghost use Rattle.med_commands.specs.Site.{site_of, opened_at, snap_at, BlamesAt, LeavesAt};
 
 use crate::copy::copy_found;
 use crate::look::{Refusal, look};
@@ -104,8 +104,9 @@ pub(crate) fn backup_node<S: Storage, N: Nodes>(
         (opened_at (site_of config.now) (S.state store.old))
         (S.state store.new) (S.stood_since store.old) (S.stood_since store.new) files.items) }
     ensures err { IfErr result
-        (BlamesLook config.now.layout config.now.node name.now
-        (snap_at (N.snaps nodes.old) (site_of config.now) name.now) (S.state store.old).content) }
+        (BlamesAt (site_of config.now) name.now
+        (snap_at (N.snaps nodes.old) (site_of config.now) name.now) (S.state store.old)
+        (S.state store.new)) }
     ensures leaves { IfErr result
         (LeavesAt (site_of config.now) name.now
         (snap_at (N.snaps nodes.old) (site_of config.now) name.now) (S.state store.old)
