@@ -3,7 +3,8 @@ SHELL := /bin/bash
 .ONESHELL:
 .PHONY: run test
 
-# The gate: every proof from nothing, the wrong bodies, the tests, the programs, the documents.
+# The gate: every proof, from nothing where nothing was kept of an earlier run, the wrong bodies, the
+# tests, the programs, the documents.
 test:
 	@.ci/run
 

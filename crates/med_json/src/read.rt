@@ -18,7 +18,7 @@ pub enum JsonError {
 }
 
 /// The value whose text these bytes are. Of a repeated key the last counts. A string with half of
-/// a surrogate pair is none, and whether a number of 10^308 or more is read is left open.
+/// a surrogate pair is none, and neither is a number too large for a finite float of 64 bits.
 pub fn read_value(alloc: Global, bytes: &[u8]) -> Result<Value, JsonError>
     ensures ok { IfOk result (λ value. IsText bytes.now (view value)) }
     ensures err { IfErr result (BlamesText bytes.now) }

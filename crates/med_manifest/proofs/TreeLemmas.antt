@@ -116,7 +116,8 @@ pub unshaped : (d : Data) (list : List Value) (e : ManifestError)
 unshaped d list Memory is blames before f n bytes text = tt
 unshaped d list (Why NotJson) is blames before f n bytes text = absurd blames
 unshaped d list (Why (NotManifest at)) is blames before f n bytes text =
-    let first = subst (λ (ds : List Data). IsFirstUnshaped ds at) (sym (items_in-view list)) blames in
+    let first = subst (λ (ds : List Data). IsFirstUnshaped ds at) (sym (items_in-view list))
+    blames in
     (d, text, no_table (items_view list) is first)
 unshaped d list (Why (BadDigest at)) is blames before f n bytes text = absurd blames
 unshaped d list (Why (ForeignPath path)) is blames before f n bytes text = absurd blames
