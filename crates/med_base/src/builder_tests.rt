@@ -1,5 +1,6 @@
 // Paths that are built, as the table of the layout writes them, and their kinds.
 use super::*;
+use crate::test_values::key_of;
 use std::alloc::Global;
 use std::test::*;
 
@@ -11,16 +12,11 @@ struct Names {
     key: FileKey,
 }
 
-fn odd_names(alloc: Global) -> Result<Names, Fail> {
-    Ok(Names {
-        node: Fqdn::read(alloc, "n_1.é x")?,
-        backup: BackupName::read(alloc, "index_ .b_7")?,
-        key: FileKey {
-            keyspace: Component::read(alloc, "data")?,
-            table: Component::read(alloc, "t-1.i_x")?,
-            file: Component::read(alloc, ".ü Data.db")?,
-        },
-    })
+fn odd_names(alloc: Global) -> Result<Names, NameError> {
+    let node = Fqdn::read(alloc, "n_1.é x")?;
+    let backup = BackupName::read(alloc, "index_ .b_7")?;
+    let key = key_of(alloc, ["data", "t-1.i_x", ".ü Data.db"])?;
+    Ok(Names { node, backup, key })
 }
 
 // Whether the path is this text behind what stands before it, and has the kind.
@@ -28,35 +24,47 @@ fn is_built(layout: &Layout, before: &str, path: &ObjPath, text: &str, kind: Pat
     path.as_str().strip_prefix(before) == Some(text) && layout.classify(path) == kind
 }
 
-fn files_come_back(alloc: Global, layout: &Layout, before: &str) -> Result<[bool; 2], Fail> {
-    let names = odd_names(alloc)?;
-    let (owner, backup) = ("n_1.é x", "index_ .b_7");
-    let (keyspace, table, file) = ("data", "t-1.i_x", ".ü Data.db");
-    let shared = layout.shared(alloc, &names.node, &names.key)?;
-    let own = layout.own(alloc, &names.node, &names.backup, &names.key)?;
-    let shared_kind = PathKind::Shared {
-        owner,
-        keyspace,
-        table,
-        file,
+fn shared_comes_back(
+    alloc: Global,
+    layout: &Layout,
+    before: &str,
+    names: &Names,
+) -> Result<bool, NoMemory> {
+    let path = layout.shared(alloc, &names.node, &names.key)?;
+    let kind = PathKind::Shared {
+        owner: "n_1.é x",
+        keyspace: "data",
+        table: "t-1.i_x",
+        file: ".ü Data.db",
     };
-    let own_kind = PathKind::Own {
-        owner,
-        backup,
-        keyspace,
-        table,
-        file,
-    };
-    let shared_text = "n_1.é x/data/data/t-1.i_x/.ü Data.db";
-    let own_text = "n_1.é x/index_ .b_7/data/data/t-1.i_x/.ü Data.db";
-    Ok([
-        is_built(layout, before, &shared, shared_text, shared_kind),
-        is_built(layout, before, &own, own_text, own_kind),
-    ])
+    let text = "n_1.é x/data/data/t-1.i_x/.ü Data.db";
+    Ok(is_built(layout, before, &path, text, kind))
 }
 
-fn metas_come_back(alloc: Global, layout: &Layout, before: &str) -> Result<u32, Fail> {
-    let names = odd_names(alloc)?;
+fn own_comes_back(
+    alloc: Global,
+    layout: &Layout,
+    before: &str,
+    names: &Names,
+) -> Result<bool, NoMemory> {
+    let path = layout.own(alloc, &names.node, &names.backup, &names.key)?;
+    let kind = PathKind::Own {
+        owner: "n_1.é x",
+        backup: "index_ .b_7",
+        keyspace: "data",
+        table: "t-1.i_x",
+        file: ".ü Data.db",
+    };
+    let text = "n_1.é x/index_ .b_7/data/data/t-1.i_x/.ü Data.db";
+    Ok(is_built(layout, before, &path, text, kind))
+}
+
+fn metas_come_back(
+    alloc: Global,
+    layout: &Layout,
+    before: &str,
+    names: &Names,
+) -> Result<u32, NoMemory> {
     let (owner, backup) = ("n_1.é x", "index_ .b_7");
     let rows = [
         (MetaKind::Schema, "n_1.é x/index_ .b_7/meta/schema.cql"),
@@ -82,8 +90,12 @@ fn metas_come_back(alloc: Global, layout: &Layout, before: &str) -> Result<u32, 
     Ok(good)
 }
 
-fn entries_come_back(alloc: Global, layout: &Layout, before: &str) -> Result<u32, Fail> {
-    let names = odd_names(alloc)?;
+fn entries_come_back(
+    alloc: Global,
+    layout: &Layout,
+    before: &str,
+    names: &Names,
+) -> Result<u32, NoMemory> {
     let (owner, backup) = ("n_1.é x", "index_ .b_7");
     let rows = [
         (
@@ -122,8 +134,12 @@ fn entries_come_back(alloc: Global, layout: &Layout, before: &str) -> Result<u32
     Ok(good)
 }
 
-fn latest_come_back(alloc: Global, layout: &Layout, before: &str) -> Result<u32, Fail> {
-    let names = odd_names(alloc)?;
+fn latest_come_back(
+    alloc: Global,
+    layout: &Layout,
+    before: &str,
+    names: &Names,
+) -> Result<u32, NoMemory> {
     let owner = "n_1.é x";
     let rows = [
         (
@@ -151,38 +167,57 @@ fn latest_come_back(alloc: Global, layout: &Layout, before: &str) -> Result<u32,
     Ok(good)
 }
 
-fn folders(alloc: Global, layout: &Layout) -> Result<String, Fail> {
-    let names = odd_names(alloc)?;
-    let node = layout.node_folder(alloc, &names.node)?;
-    let backup = layout.backup_folder(alloc, &names.node, &names.backup)?;
-    let index = layout.index_folder(alloc, &names.backup)?;
-    Ok(format!(in alloc; "{node}\n{backup}\n{index}")?)
-}
-
 #[test]
 fn every_path_that_is_built_comes_back(rt: HostRuntime) -> Result<(), Fail> {
     let alloc = rt.alloc();
     builders_and_kinds();
+    let names = odd_names(alloc)?;
     for (prefix, before) in [("", ""), ("a b/ü", "a b/ü/")] {
         let layout = Layout::new(alloc, prefix)?;
-        let files = files_come_back(alloc, &layout, before)?;
-        let metas = metas_come_back(alloc, &layout, before)?;
-        let entries = entries_come_back(alloc, &layout, before)?;
-        let latest = latest_come_back(alloc, &layout, before)?;
+        let shared = shared_comes_back(alloc, &layout, before, &names)?;
+        let own = own_comes_back(alloc, &layout, before, &names)?;
+        let metas = metas_come_back(alloc, &layout, before, &names)?;
+        let entries = entries_come_back(alloc, &layout, before, &names)?;
+        let latest = latest_come_back(alloc, &layout, before, &names)?;
         assert_eq!(rt;
-            (files, metas, entries, latest),
-            ([true, true], 4, 5, 2),
+            (shared, own, metas, entries, latest),
+            (true, true, 4, 5, 2),
             "at {prefix}"
         );
     }
     Ok(())
 }
 
+// Whether the folders of the node, of the backup and of its entries in the index are these.
+fn are_folders(
+    alloc: Global,
+    layout: &Layout,
+    names: &Names,
+    texts: [&str; 3],
+) -> Result<[bool; 3], NoMemory> {
+    let [node, backup, index] = texts;
+    Ok([
+        layout.node_folder(alloc, &names.node)?.as_str() == node,
+        layout
+            .backup_folder(alloc, &names.node, &names.backup)?
+            .as_str()
+            == backup,
+        layout.index_folder(alloc, &names.backup)?.as_str() == index,
+    ])
+}
+
 #[test]
 fn folders_end_in_a_slash(rt: HostRuntime) -> Result<(), Fail> {
     let layout = Layout::new(rt.alloc(), "a/b")?;
-    let text = folders(rt.alloc(), &layout)?;
-    let expected = "a/b/n_1.é x/\na/b/n_1.é x/index_ .b_7/\na/b/index/backup_index/index_ .b_7/";
-    assert_eq!(rt; text.as_str(), expected);
+    let names = odd_names(rt.alloc())?;
+    let texts = [
+        "a/b/n_1.é x/",
+        "a/b/n_1.é x/index_ .b_7/",
+        "a/b/index/backup_index/index_ .b_7/",
+    ];
+    assert_eq!(rt;
+        are_folders(rt.alloc(), &layout, &names, texts),
+        Ok([true; 3])
+    );
     Ok(())
 }

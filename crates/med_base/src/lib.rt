@@ -43,4 +43,6 @@ mod digest_tests;
 #[cfg(test)]
 mod layout_tests;
 #[cfg(test)]
+mod test_values;
+#[cfg(test)]
 mod tests;

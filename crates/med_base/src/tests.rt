@@ -1,7 +1,8 @@
 // Names and their first faults by the rules, and the digests of RFC 1321, A.5.
+use crate::test_values::key_of;
 use crate::{
-    BackupName, Component, FileKey, Fingerprint, Fqdn, Layout, MetaKind, NameError, NoMemory,
-    ObjPath, cut_at, decimal_in, md5_text,
+    BackupName, Component, Fingerprint, Fqdn, Layout, NameError, NoMemory, ObjPath, cut_at,
+    decimal_in, md5_text,
 };
 use std::alloc::Global;
 use std::cmp::Ordering;
@@ -146,42 +147,60 @@ fn a_prefix_ends_at_512_bytes(rt: HostRuntime) {
     }
 }
 
-fn copies(alloc: Global) -> Result<[bool; 6], Fail> {
+fn is_component_copied(alloc: Global) -> Result<bool, Fail> {
     let part = Component::read(alloc, "ks")?;
+    Ok(part.copy(alloc)?.as_str() == "ks")
+}
+
+fn is_node_copied(alloc: Global) -> Result<bool, Fail> {
     let node = Fqdn::read(alloc, "n1")?;
+    Ok(node.copy(alloc)?.as_str() == "n1")
+}
+
+fn is_backup_copied(alloc: Global) -> Result<bool, Fail> {
     let backup = BackupName::read(alloc, "b1")?;
+    Ok(backup.copy(alloc)?.as_str() == "b1")
+}
+
+fn is_path_copied(alloc: Global) -> Result<bool, NoMemory> {
     let path = ObjPath::of(alloc, "n1/b1")?;
-    let layout = Layout::new(alloc, "pre/fix")?;
+    Ok(path.copy(alloc)?.as_str() == "n1/b1")
+}
+
+fn is_key_copied(alloc: Global) -> Result<bool, Fail> {
     let key = key_of(alloc, ["ks", "t-1", "nb-1-big-Data.db"])?;
-    let own = layout.own(alloc, &node, &backup, &key)?;
-    let own_of_copy = layout.copy(alloc)?.own(alloc, &node, &backup, &key)?;
-    Ok([
-        part.copy(alloc)?.as_str() == "ks",
-        node.copy(alloc)?.as_str() == "n1",
-        backup.copy(alloc)?.as_str() == "b1",
-        path.copy(alloc)?.as_str() == "n1/b1",
-        own_of_copy.as_str() == own.as_str(),
-        key.copy(alloc)? == key,
-    ])
+    Ok(key.copy(alloc)? == key)
+}
+
+fn is_layout_copied(alloc: Global, node: &Fqdn) -> Result<bool, Fail> {
+    let layout = Layout::new(alloc, "pre/fix")?;
+    let copied = layout.copy(alloc)?;
+    Ok(copied.node_folder(alloc, node)?.as_str() == "pre/fix/n1/")
 }
 
 #[test]
 fn a_copy_is_equal(rt: HostRuntime) -> Result<(), Fail> {
-    assert_eq!(rt; copies(rt.alloc())?, [true; 6]);
+    let alloc = rt.alloc();
+    let node = Fqdn::read(alloc, "n1")?;
+    assert!(rt; is_component_copied(alloc)?);
+    assert!(rt; is_node_copied(alloc)?);
+    assert!(rt; is_backup_copied(alloc)?);
+    assert!(rt; is_path_copied(alloc)?);
+    assert!(rt; is_key_copied(alloc)?);
+    assert!(rt; is_layout_copied(alloc, &node)?);
     Ok(())
 }
 
-fn key_of(alloc: Global, parts: [&str; 3]) -> Result<FileKey, Fail> {
-    let [keyspace, table, file] = parts;
-    Ok(FileKey {
-        keyspace: Component::read(alloc, keyspace)?,
-        table: Component::read(alloc, table)?,
-        file: Component::read(alloc, file)?,
-    })
+// Whether the first key stands before the second, by each call that compares.
+fn are_in_order(alloc: Global, low: [&str; 3], high: [&str; 3]) -> Result<bool, NameError> {
+    let low = key_of(alloc, low)?;
+    let high = key_of(alloc, high)?;
+    Ok(low.cmp(&high) == Ordering::Less && high > low && low != high)
 }
 
 #[test]
-fn keys_stand_in_order_of_their_parts(rt: HostRuntime) -> Result<(), Fail> {
+fn keys_stand_in_order_of_their_parts(rt: HostRuntime) {
+    let alloc = rt.alloc();
     for (low, high) in [
         (["a", "z", "z"], ["b", "a", "a"]),
         (["a", "z", "z"], ["a-1", "a", "a"]),
@@ -189,43 +208,8 @@ fn keys_stand_in_order_of_their_parts(rt: HostRuntime) -> Result<(), Fail> {
         (["k", "t", "Z"], ["k", "t", "a"]),
         (["k", "t", "z"], ["k", "t", "\u{e9}"]),
     ] {
-        let (low, high) = (key_of(rt.alloc(), low)?, key_of(rt.alloc(), high)?);
-        assert_eq!(rt; low.cmp(&high), Ordering::Less);
-        assert_eq!(rt; high.partial_cmp(&low), Some(Ordering::Greater));
-        assert!(rt; low != high);
+        assert_eq!(rt; are_in_order(alloc, low, high), Ok(true));
     }
-    Ok(())
-}
-
-fn paths(alloc: Global, prefix: &str) -> Result<String, Fail> {
-    let layout = Layout::new(alloc, prefix)?;
-    let node = Fqdn::read(alloc, "n1")?;
-    let backup = BackupName::read(alloc, "b1")?;
-    let key = key_of(alloc, ["ks", "t-1", "nb-1-big-Data.db"])?;
-    let mut text = layout.backup_folder(alloc, &node, &backup)?;
-    text.push('\n')?;
-    text.push_str(layout.own(alloc, &node, &backup, &key)?.as_str())?;
-    for kind in [
-        MetaKind::Schema,
-        MetaKind::Differential,
-        MetaKind::Tokenmap,
-        MetaKind::Manifest,
-    ] {
-        text.push('\n')?;
-        text.push_str(layout.meta(alloc, &node, &backup, kind)?.as_str())?;
-    }
-    Ok(text)
-}
-
-#[test]
-fn each_object_has_its_path(rt: HostRuntime) -> Result<(), Fail> {
-    let plain = "n1/b1/\nn1/b1/data/ks/t-1/nb-1-big-Data.db\nn1/b1/meta/schema.cql\n\
-        n1/b1/meta/differential\nn1/b1/meta/tokenmap.json\nn1/b1/meta/manifest.json";
-    let below = "p/q/n1/b1/\np/q/n1/b1/data/ks/t-1/nb-1-big-Data.db\np/q/n1/b1/meta/schema.cql\n\
-        p/q/n1/b1/meta/differential\np/q/n1/b1/meta/tokenmap.json\np/q/n1/b1/meta/manifest.json";
-    assert_eq!(rt; paths(rt.alloc(), "")?.as_str(), plain);
-    assert_eq!(rt; paths(rt.alloc(), "p/q")?.as_str(), below);
-    Ok(())
 }
 
 // Whether the fingerprint of a text is its length and this digest.
