@@ -10,7 +10,7 @@ use Rattle.med_manifest.specs.Manifest.{IsManifest}
 use Rattle.med_manifest.specs.Written.{manifest_text}
 use Rattle.med_outside.specs.Effects.{after_all}
 use Rattle.med_outside.specs.Snapshot.{Snapshot}
-use Rattle.med_outside.specs.State.{State, Passes, Moves, terms_of}
+use Rattle.med_outside.specs.State.{State, Passes, Moves}
 use Rattle.med_outside.proofs.Passing.{passes_from_terms}
 use Rattle.med_words.specs.Request.{Asked}
 use Rattle.med_commands.specs.Answers.{IsMade, IsCutShort, IsCausedOf}
@@ -192,7 +192,7 @@ module _ (asked : Asked) (a : Around) (past since : ℕ → Content → Type 0) 
 
     opened_untouched : Moves [] (opened_at site a.old) a.new past since
         → Passes [] a.old a.new past since
-    opened_untouched moves = passes_from_terms (terms_of site.base site.bucket site.before) [] a.old
+    opened_untouched moves = passes_from_terms (opened_at site a.old).terms [] a.old
         a.new past since moves.passes
 
     untouched : Moves [] a.old a.new past since ⊎ Moves [] (opened_at site a.old) a.new past since

@@ -7,7 +7,7 @@ use Rattle.med_manifest.specs.declared.manifest.FileRecord.{FileRecord}
 use Rattle.med_outside.specs.Causes.{Rose}
 use Rattle.med_outside.specs.Effects.{Effect}
 use Rattle.med_outside.specs.Snapshot.{Snapshot}
-use Rattle.med_outside.specs.State.{State, Passes, Moves, terms_of}
+use Rattle.med_outside.specs.State.{State, Passes, Moves}
 use Rattle.med_outside.specs.declared.mode.Mode.TheVariants.{Full}
 use Rattle.med_words.specs.Blames.{BlamesWords}
 use Rattle.med_words.specs.Request.{Action, Asked, IsRequest, backup, word_of}
@@ -110,7 +110,7 @@ pub record IsDone (site : Site) (n : List ℕ) (held : Option Snapshot) (old new
       (λ c d. IfSome held (λ s. IsBackupOf site.before site.node n s c d files))
   pub walked : IfSome held CanBeWalked
   pub was_free : IsFree site.before site.node n old.content
-  pub terms : new.terms ≡ terms_of site.base site.bucket site.before
+  pub terms : new.terms ≡ (opened_at site old).terms
 
 -- a backup is asked for, and done as `IsDone` says, and its line is told
 pub record IsBackedUp (asked : Asked) (a : Around) (says : List ℕ → Type 0) : Type 0 where

@@ -31,6 +31,7 @@ pub struct FolderStore<R> {
     base: String,
     bucket: String,
     layout: Layout,
+    opens: u64,
     last: u64,
     faults: u64,
 }
@@ -45,7 +46,7 @@ impl<R> Model for FolderStore<R> {
 
     ghost view = { λ s. record {
       faults = s.faults;
-      terms = terms_of (string_bytes s.base) (string_bytes s.bucket) s.layout;
+      terms = terms_of (string_bytes s.base) (string_bytes s.bucket) s.layout s.opens;
     } };
 
     // The folder is that of the bucket that is open, or none is open.
@@ -56,7 +57,7 @@ impl<R> Model for FolderStore<R> {
 impl<R> FolderStore<R> {
     /// A store that isn't open yet: until then each put and listing is a fault. It takes no memory.
     pub fn new(alloc: Global, rt: R) -> FolderStore<R>
-        ensures { result ≡ record { faults = 0; terms = terms_of [] [] [] } }
+        ensures { result ≡ record { faults = 0; terms = terms_of [] [] [] 0 } }
     {
         FolderStore {
             rt,
@@ -64,6 +65,7 @@ impl<R> FolderStore<R> {
             base: String::new(alloc),
             bucket: String::new(alloc),
             layout: Layout::plain(alloc),
+            opens: 0,
             last: 0,
             faults: 0,
         }
@@ -139,6 +141,7 @@ impl<R: Files + Clock + AllocGlobal + Clone + Drop> Storage for FolderStore<R> {
         self.base = base_text;
         self.bucket = bucket_text;
         self.layout = layout;
+        self.opens = self.opens.saturating_add(1);
         Ok(())
     }
 

@@ -1,6 +1,7 @@
 -- What the calls of a store in memory leave.
 use Rattle.std.specs.Prelude.{◌≡◌, ◌+◌, ◌-◌, ◌^◌, ℕ, min, List, [], ◌∷◌, ◌++◌, Result, Ok, Err, IsErrOf}
 use Rattle.med_base.specs.Content.{with_object}
+use Rattle.med_outside.specs.Causes.{one_more}
 use Rattle.med_outside.specs.declared.denied.Denied.{Denied}
 use Rattle.med_outside.specs.declared.denied.Denied.TheVariants.{Failed, Memory}
 use Rattle.med_outside.specs.Effects.{Stores}
@@ -48,7 +49,7 @@ new_at clock tick = record {
   tick = tick;
   calls = 0;
   faults = 0;
-  terms = terms_of [] [] [];
+  terms = terms_of [] [] [] 0;
 }
 
 -- no call more can be counted
@@ -58,12 +59,12 @@ IsFull m = m.calls ≡ 2 ^ 64 - 1
 -- one fault more after a failure, up to the last value of a 64-bit counter
 abbrev pub faults_after : {T : Type 0} → Result T Denied → ℕ → ℕ
 faults_after (Ok x) faults = faults
-faults_after (Err Failed) faults = min (faults + 1) (2 ^ 64 - 1)
+faults_after (Err Failed) faults = one_more faults
 faults_after (Err Memory) faults = faults
 
 -- the call was counted, and so was its failure, which comes only where no call can be counted
 pub record Counts {T : Type 0} (old new : Told) (result : Result T Denied) : Type 0 where
-  pub calls : new.calls ≡ min (old.calls + 1) (2 ^ 64 - 1)
+  pub calls : new.calls ≡ one_more old.calls
   pub faults : new.faults ≡ faults_after result old.faults
   pub full : IsErrOf result Failed → IsFull old
   pub told : IsFull old → IsErrOf result Failed

@@ -1,5 +1,6 @@
 -- What a sink in memory means.
-use Rattle.std.specs.Prelude.{ℕ, ◌+◌, ◌-◌, ◌^◌, min, List, ◌++◌, length}
+use Rattle.std.specs.Prelude.{ℕ, ◌-◌, List, ◌++◌, length}
+use Rattle.med_outside.specs.Causes.{one_more}
 
 -- what a contract sees of a sink
 pub record Taken : Type 0 where
@@ -20,4 +21,4 @@ with_more more s = record { bytes = s.bytes ++ more; limit = s.limit; faults = s
 
 -- a write failed, and it has taken nothing
 abbrev pub with_fault : Taken → Taken
-with_fault s = record { bytes = s.bytes; limit = s.limit; faults = min (s.faults + 1) (2 ^ 64 - 1) }
+with_fault s = record { bytes = s.bytes; limit = s.limit; faults = one_more s.faults }

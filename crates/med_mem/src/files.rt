@@ -1,8 +1,8 @@
 // Files in memory.
-ghost use Rattle.std.specs.Prelude.{◌≡◌, ◌↔◌, ◌≤◌, ◌==◌, ◌+◌, ◌-◌, ◌^◌, [], true, false, min, map, option_map, string_bytes, IfOk, OnOk, OnErr, IsErrOf};
+ghost use Rattle.std.specs.Prelude.{◌≡◌, ◌↔◌, ◌≤◌, ◌==◌, ◌+◌, ◌-◌, ◌^◌, [], true, false, map, option_map, string_bytes, IfOk, OnOk, OnErr, IsErrOf};
 ghost use Rattle.std.specs.List.{list_any};
 ghost use Rattle.std.specs.Str.{bytes_eq};
-ghost use Rattle.med_outside.specs.Causes.{HasCause};
+ghost use Rattle.med_outside.specs.Causes.{one_more, HasCause};
 ghost use Rattle.med_outside.specs.declared.denied.Denied.TheVariants.{Failed, Memory};
 ghost use Rattle.med_mem.specs.Calls.{faults_after};
 ghost use Rattle.med_mem.specs.Named.{bytes_at, file_at, is_failing_after, is_failing, with_file, with_failing, named_files};
@@ -119,7 +119,7 @@ impl Files for MemFiles {
             × (option_map (λ bytes. bytes.items) file ≡ file_at name.now self.old)) }
         ensures failed { IsErrOf result Failed ↔ (is_failing self.old ≡ true) }
         ensures same { (self.new.files ≡ self.old.files) × (self.new.failing ≡ self.old.failing) }
-        ensures counts { (self.new.calls ≡ min (self.old.calls + 1) (2 ^ 64 - 1))
+        ensures counts { (self.new.calls ≡ one_more self.old.calls)
             × (self.new.faults ≡ faults_after result self.old.faults) }
         ensures cause { HasCause self.old.faults self.new.faults result }
     {

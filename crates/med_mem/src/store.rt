@@ -26,6 +26,7 @@ pub struct MemStore {
     base: String,
     bucket: String,
     layout: Layout,
+    opens: u64,
 }
 
 impl Model for MemStore {
@@ -37,15 +38,15 @@ impl Model for MemStore {
     ghost Value = { Told };
 
     ghost view = { λ m. told_by m.changes.items m.clock m.tick m.calls m.faults
-        (terms_of (string_bytes m.base) (string_bytes m.bucket) m.layout) };
+        (terms_of (string_bytes m.base) (string_bytes m.bucket) m.layout m.opens) };
 
     ghost invariant = { λ m. Tells m.objects.items m.changes.items m.calls };
 }
 
 impl MemStore {
-    /// A store without objects and faults that isn't open yet, under the layout of the empty prefix.
-    /// `now` begins at the clock, in seconds, and each put that takes effect adds a tick to it
-    /// afterwards, up to the last value. It takes no memory.
+    /// A store without objects and faults that isn't open yet, under the layout of the empty
+    /// prefix. `now` begins at the clock, in seconds, and each put that takes effect adds a tick to
+    /// it afterwards, up to the last value. It takes no memory.
     pub fn new(alloc: Global, clock: u64, tick: u64) -> MemStore
         ensures { result ≡ new_at clock tick }
     {
@@ -59,6 +60,7 @@ impl MemStore {
             base: String::new(alloc),
             bucket: String::new(alloc),
             layout: Layout::plain(alloc),
+            opens: 0,
         }
     }
 
@@ -140,6 +142,7 @@ impl Storage for MemStore {
         self.base = base;
         self.bucket = bucket;
         self.layout = layout;
+        self.opens = self.opens.saturating_add(1);
         Ok(())
     }
 

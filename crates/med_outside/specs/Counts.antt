@@ -1,15 +1,12 @@
 -- How many snapshots of nodes were opened, and how many of them were closed again.
-use Rattle.std.specs.Prelude.{◌≡◌, ℕ, ◌+◌, ◌-◌, ◌^◌, min, zero, suc, Result, Ok, Err}
+use Rattle.std.specs.Prelude.{◌≡◌, ℕ, zero, suc, Result, Ok, Err}
+use Rattle.med_outside.specs.Causes.{one_more}
 use Rattle.med_outside.specs.declared.denied.Denied.{Denied}
 
 -- both are held at the last value of a 64-bit counter
 pub record SnapshotCounts : Type 0 where
   pub opened : ℕ
   pub closed : ℕ
-
--- one more, as far as a 64-bit counter goes
-abbrev pub one_more : ℕ → ℕ
-one_more n = min (n + 1) (2 ^ 64 - 1)
 
 -- one more was opened
 abbrev pub with_opened : SnapshotCounts → SnapshotCounts

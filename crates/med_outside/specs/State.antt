@@ -1,6 +1,7 @@
 -- What a storage means, but for the contents that stood, and what a call leaves of it.
 use Rattle.std.specs.Prelude.{◌≡◌, ◌⊎◌, ◌≤◌, ℕ, List, [], Option, is_some}
 use Rattle.med_base.specs.Content.{Content}
+use Rattle.med_outside.specs.Causes.{one_more}
 use Rattle.med_outside.specs.Effects.{Effect, after_all, IsMoment}
 
 -- what no change of the content touches; only `open` changes it
@@ -10,6 +11,8 @@ pub record Terms : Type 0 where
   pub bucket : List ℕ
   -- what stands before each path of the bucket
   pub layout : List ℕ
+  -- how often a bucket was opened, held at the last value of a 64-bit counter
+  pub opens : ℕ
 
 pub record State : Type 0 where
   -- the objects, where they are told
@@ -55,10 +58,16 @@ under_terms terms s = record {
   terms = terms;
 }
 
--- the terms of a bucket that is open under a layout
-abbrev pub terms_of : (base bucket layout : List ℕ) → Terms
-terms_of base bucket layout = record { base = base; bucket = bucket; layout = layout }
+-- the terms of a bucket that is open under a layout, where so many were opened
+abbrev pub terms_of : (base bucket layout : List ℕ) (opens : ℕ) → Terms
+terms_of base bucket layout opens = record {
+  base = base;
+  bucket = bucket;
+  layout = layout;
+  opens = opens;
+}
 
--- a bucket was opened under a layout
+-- one more bucket was opened, under a layout
 abbrev pub opened : (base bucket layout : List ℕ) → State → State
-opened base bucket layout s = under_terms (terms_of base bucket layout) s
+opened base bucket layout s =
+    under_terms (terms_of base bucket layout (one_more s.terms.opens)) s
