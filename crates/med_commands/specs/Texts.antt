@@ -1,7 +1,7 @@
 -- The texts of faults that name something, and the tag of a backup's snapshot.
 use Rattle.std.specs.Prelude.{ℕ, List, ◌++◌, codes, decimal}
+use Rattle.med_ini.specs.Texts.{kind_text}
 use Rattle.med_ini.specs.declared.errors.IniKind.{IniKind}
-use Rattle.med_ini.specs.declared.errors.IniKind.TheVariants.{NotUtf8, NoSection, NoDelimiter, DuplicateSection, DuplicateOption, EmptyKey}
 
 abbrev pub bad_value_text : List ℕ → List ℕ
 bad_value_text option = codes "bad value for " ++ option
@@ -13,14 +13,6 @@ abbrev pub no_file_text : List ℕ → List ℕ
 no_file_text name = codes "config: no file " ++ name
 
 -- what is wrong in a line of the config file
-abbrev pub kind_text : IniKind → List ℕ
-kind_text NotUtf8 = codes "not utf-8"
-kind_text NoSection = codes "no section"
-kind_text NoDelimiter = codes "no delimiter"
-kind_text DuplicateSection = codes "duplicate section"
-kind_text DuplicateOption = codes "duplicate option"
-kind_text EmptyKey = codes "empty key"
-
 abbrev pub line_text : ℕ → IniKind → List ℕ
 line_text line kind = codes "config: line " ++ (decimal line ++ (codes ": " ++ kind_text kind))
 

@@ -1,8 +1,8 @@
 // The texts of a config file that gives no configuration.
-ghost use Rattle.std.specs.Prelude.{◌≡◌, ◌≤◌, OnErr};
+ghost use Rattle.std.specs.Prelude.{◌≤◌, OnErr};
 ghost use Rattle.med_outside.specs.Causes.{Rose};
 ghost use Rattle.med_commands.specs.Loaded.{config_text};
-ghost use Rattle.med_commands.specs.Texts.{kind_text, line_text};
+ghost use Rattle.med_commands.specs.Texts.{line_text};
 ghost use Rattle.med_commands.specs.Printed.{Prints, complaint};
 
 use crate::load::ConfigFault;
@@ -10,19 +10,6 @@ use crate::print::{say_named, write_pieces};
 use itoa::Buffer;
 use med_ini::IniKind;
 use med_outside::{Sink, SinkFailed};
-
-fn text_of_kind(kind: IniKind) -> &'static [u8]
-    ensures { result.now ≡ kind_text kind }
-{
-    match kind {
-        IniKind::NotUtf8 => b"not utf-8",
-        IniKind::NoSection => b"no section",
-        IniKind::NoDelimiter => b"no delimiter",
-        IniKind::DuplicateSection => b"duplicate section",
-        IniKind::DuplicateOption => b"duplicate option",
-        IniKind::EmptyKey => b"empty key",
-    }
-}
 
 fn say_line<E: Sink>(err: &mut E, line: u64, kind: IniKind) -> Result<(), SinkFailed>
     ensures text { Prints (complaint (line_text line kind)) (E.taken err.old) (E.taken err.new)
@@ -38,7 +25,7 @@ fn say_line<E: Sink>(err: &mut E, line: u64, kind: IniKind) -> Result<(), SinkFa
             b"medusa: config: line ".as_slice(),
             number.as_bytes(),
             b": ".as_slice(),
-            text_of_kind(kind),
+            kind.text().as_bytes(),
             b"\n".as_slice(),
         ],
     )

@@ -5,4 +5,5 @@ pub mod LabelViews
 pub mod Labels
 pub mod Lines
 pub mod Options
+pub mod Texts
 pub mod Views

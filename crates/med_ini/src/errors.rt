@@ -1,6 +1,7 @@
 // Why a text isn't in the ini form.
-ghost use Rattle.std.specs.Prelude.{◌≡◌};
+ghost use Rattle.std.specs.Prelude.{◌≡◌, Some};
 ghost use Rattle.med_ini.specs.declared.errors.IniError.TheVariants.{Memory};
+ghost use Rattle.med_ini.specs.Texts.{kind_text};
 
 use med_base::NoMemory;
 use std::alloc::AllocFailed;
@@ -24,16 +25,27 @@ pub enum IniKind {
     EmptyKey,
 }
 
-impl fmt::Display for IniKind {
-    fn fmt<W: fmt::Write>(&self, f: &mut fmt::Formatter<W>) -> fmt::Result {
+impl IniKind {
+    /// What it is called, in lower case.
+    pub fn text(self) -> &'static str
+        ensures { result.now ≡ kind_text self }
+    {
         match self {
-            IniKind::NotUtf8 => write!(f, "not utf-8"),
-            IniKind::NoSection => write!(f, "no section"),
-            IniKind::NoDelimiter => write!(f, "no delimiter"),
-            IniKind::DuplicateSection => write!(f, "duplicate section"),
-            IniKind::DuplicateOption => write!(f, "duplicate option"),
-            IniKind::EmptyKey => write!(f, "empty key"),
+            IniKind::NotUtf8 => "not utf-8",
+            IniKind::NoSection => "no section",
+            IniKind::NoDelimiter => "no delimiter",
+            IniKind::DuplicateSection => "duplicate section",
+            IniKind::DuplicateOption => "duplicate option",
+            IniKind::EmptyKey => "empty key",
         }
+    }
+}
+
+impl fmt::Display for IniKind {
+    ghost output = { λ kind. Some (kind_text kind) };
+
+    fn fmt<W: fmt::Write>(&self, f: &mut fmt::Formatter<W>) -> fmt::Result {
+        f.write_str(self.text())
     }
 }
 

@@ -1,7 +1,7 @@
 use Rattle.std.proofs.Common.{ℕ, List, subst}
 use Rattle.std.specs.Prelude.{decimal}
 use Rattle.med_commands.specs.Printed.{Prints}
-use Rattle.med_commands.specs.Texts.{kind_text}
+use Rattle.med_ini.specs.Texts.{kind_text}
 use Rattle.med_commands.proofs.Printing.{line_said}
 use Rattle.med_commands.proofs.config_fault.say_line.Goals as goal
 
@@ -12,7 +12,8 @@ returns-clause-text g c =
       c.as_bytes.ensures.value,
       c.format-number.ensures.text,
       c.as_slice-2.ensures,
-      c.text_of_kind.ensures,
+      c.as_bytes-2.ensures.value,
+      c.text.ensures,
       c.as_slice-3.ensures,
     ) at c.write_pieces.ensures.text in
     subst (λ (t : List ℕ). Prints t (g.E.Sink.taken c.args.err.now)
