@@ -1,5 +1,5 @@
 -- Which paths below a bucket's folder are those of objects. This project's own rule.
-use Rattle.std.specs.Prelude.{ℕ, Bool, not, ◌&&◌, ◌||◌, ◌==◌, ◌++◌, is_none, List, [], codes, position}
+use Rattle.std.specs.Prelude.{◌≡◌, ◌≢◌, ◌⊎◌, ◌<◌, ℕ, Bool, not, ◌&&◌, ◌||◌, ◌==◌, ◌++◌, is_none, List, [], ◌∷◌, codes, position, length, get_or}
 use Rattle.std.specs.List.{list_all}
 use Rattle.std.specs.Str.{bytes_eq}
 use Rattle.med_base.specs.Content.{is_under}
@@ -18,6 +18,16 @@ is_name text =
 -- the folder of unfinished files, or a path below it
 abbrev pub is_unfinished : List ℕ → Bool
 is_unfinished path = bytes_eq path (codes ".medusa-tmp") || is_under (codes ".medusa-tmp/") path
+
+-- no byte of the text is a slash
+abbrev pub HasNoSlash : List ℕ → Type 0
+HasNoSlash text = (i : ℕ) → i < length text → get_or text i 0 ≢ 47
+
+-- the path has one part, and the parent is empty; or the parent stands before its last slash
+abbrev pub IsParent : (path parent : List ℕ) → Type 0
+IsParent path parent =
+    (HasNoSlash path × (parent ≡ []))
+    ⊎ ((name : List ℕ) × HasNoSlash name × (path ≡ parent ++ 47 ∷ name))
 
 -- the folder of a bucket
 abbrev pub bucket_folder : (base bucket : List ℕ) → List ℕ

@@ -2,7 +2,7 @@
 ghost use Rattle.std.specs.Prelude.{◌≡◌, ◌++◌, IfOk, codes, position, string_bytes};
 ghost use Rattle.std.specs.List.{list_all};
 ghost use Rattle.med_base.specs.Prefix.{parts};
-ghost use Rattle.med_folder.specs.Place.{is_separator, is_name, is_unfinished, is_object_path};
+ghost use Rattle.med_folder.specs.Place.{is_separator, is_name, is_unfinished, is_object_path, IsParent};
 
 use med_base::cut_at;
 use std::alloc::{AllocError, Global};
@@ -73,9 +73,11 @@ pub(crate) fn joined(alloc: Global, folder: &str, name: &str) -> Result<String, 
 }
 
 /// What stands before the last slash, or the empty text.
-pub(crate) fn parent_of(path: &str) -> &str {
-    match path.rsplit_once('/') {
-        Some((parent, _)) => parent,
+pub(crate) fn parent_of(path: &str) -> &str
+    ensures { IsParent path.now result.now }
+{
+    match path.rfind('/') {
+        Some(at) => &path[..at],
         None => "",
     }
 }

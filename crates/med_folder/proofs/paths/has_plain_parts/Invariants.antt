@@ -8,7 +8,9 @@ use Rattle.med_folder.proofs.paths.has_plain_parts.Given as goal
 
 -- the parts so far are names, and those that are left are looked at from here on
 abbrev pub invariant-parts : goal.invariant-parts
-invariant-parts l = list_all is_name (pieces_left 47 (option_map (λ s. s.now) l.rest)) ≡ list_all is_name (parts l.path)
+invariant-parts l =
+    list_all is_name (pieces_left 47 (option_map (λ s. s.now) l.rest))
+    ≡ list_all is_name (parts l.path)
 
 abbrev pub decreases-parts : goal.decreases-parts
 decreases-parts l = option_map_or (λ s. suc (length s.now)) l.rest 0
