@@ -12,7 +12,8 @@ fn place_of(text: &[u8], byte: u8) -> Option<usize>
 pub fn cut_at(text: &[u8], byte: u8) -> (&[u8], Option<&[u8]>)
     ensures pieces { pieces_of byte text.now ≡ result.0.now ∷ pieces_left byte
         (option_map (λ s. s.now) result.1) }
-    ensures len { IfSome result.1 (λ s. length result.0.now + (length s.now + 1) ≡ length text.now) }
+    ensures len { IfSome result.1
+        (λ s. length result.0.now + (length s.now + 1) ≡ length text.now) }
 {
     match place_of(text, byte) {
         Some(at) => (&text[..at], Some(&text[at + 1..])),

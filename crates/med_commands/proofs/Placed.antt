@@ -72,10 +72,11 @@ module _ (before f n : List ℕ) (held : Option Snapshot) where
       → PlacesOne before f n held key old new past since
       (record { key = k; path = path; fingerprint = print })
   unfolding one_copied
-  one_placed key k path bytes print at old new past since key_is path_is print_is of moves = record {
-    places = one_copied key path bytes at old new past since path_is of moves;
-    files_are = λ i. record { key = key_is i; path = path_is i; fingerprint = print_is i } ∷ [];
-  }
+  one_placed key k path bytes print at old new past since key_is path_is print_is of moves =
+      record {
+        places = one_copied key path bytes at old new past since path_is of moves;
+        files_are = λ i. record { key = key_is i; path = path_is i; fingerprint = print_is i } ∷ [];
+      }
 
   -- the put of one file answered a failure
   pub maybe_placed : (key : FileKey) (path bytes : List ℕ) (old new : State)

@@ -4,7 +4,7 @@ ghost use Rattle.std.specs.List.{list_all};
 ghost use Rattle.med_base.specs.Prefix.{parts};
 ghost use Rattle.med_outside.specs.Snapshot.{raw_name};
 ghost use Rattle.med_folder.specs.Place.{is_name};
-ghost use Rattle.med_folder.specs.Snapshots.{table_folder, file_path, keys_for};
+ghost use Rattle.med_folder.specs.Snapshots.{table_folder, file_path, key_of, keys_for};
 
 use crate::count::{counted, is_absent};
 use crate::files::{is_plain_way, read_plain};
@@ -105,7 +105,7 @@ fn names_in<R: Files + AllocGlobal + Clone + Drop>(
 }
 
 fn raw_key(alloc: Global, keyspace: &str, table: &str, file: &str) -> Result<RawKey, AllocError>
-    ensures { IfOk result (λ key. raw_name key ≡ record { keyspace = keyspace.now; table = table.now; file = file.now }) }
+    ensures { IfOk result (λ key. raw_name key ≡ key_of keyspace.now table.now file.now) }
 {
     let keyspace = String::from_str(alloc, keyspace)?;
     let table = String::from_str(alloc, table)?;
@@ -158,7 +158,8 @@ fn keys_of_table<R: Files + AllocGlobal + Clone + Drop>(
 
 // The folder of a table's files, below the folder of the node's data.
 fn table_folder(alloc: Global, keyspace: &str, table: &str, tag: &str) -> Result<String, AllocError>
-    ensures { IfOk result (λ folder. string_bytes folder ≡ table_folder keyspace.now table.now tag.now) }
+    ensures { IfOk result
+        (λ folder. string_bytes folder ≡ table_folder keyspace.now table.now tag.now) }
 {
     let mut folder = joined(alloc, keyspace, table)?;
     folder.push_str("/snapshots/")?;

@@ -63,7 +63,8 @@ impl MemNodes {
         tag: &str,
         snap: MemSnap,
     ) -> Result<(), NoMemory>
-        ensures here { OnOk result (HasAdded root.now node.now tag.now (snapshot_of snap) self.old self.new) }
+        ensures here { OnOk result
+            (HasAdded root.now node.now tag.now (snapshot_of snap) self.old self.new) }
         ensures before { Keeps self.old self.new }
         ensures elsewhere { KeepsOthers root.now node.now tag.now self.old self.new }
         ensures err { OnErr result (self.new ≡ self.old) }
@@ -133,7 +134,8 @@ impl Nodes for MemNodes {
         node: &Fqdn,
         tag: &str,
     ) -> Result<MemOpened, Denied>
-        ensures held { IfOk result (λ s. held_by s ≡ snapshot_at self.old root.now node.now tag.now) }
+        ensures held { IfOk result
+            (λ s. held_by s ≡ snapshot_at self.old root.now node.now tag.now) }
         ensures fresh { IfOk result (λ snap. snap.faults ≡ 0) }
         ensures same { self.new.given ≡ self.old.given }
         ensures faults { self.new.faults ≡ self.old.faults }

@@ -43,7 +43,8 @@ fn place_of(objects: &[MemObject], path: &str) -> Result<usize, usize>
 
 // Puts an object in its place, or in place of the one there.
 fn store_object(objects: &mut Vec<MemObject>, object: MemObject) -> Result<(), NoMemory>
-    ensures ok { OnOk result (IsStored object.path (object_of object) objects.old.items objects.new.items) }
+    ensures ok { OnOk result
+        (IsStored object.path (object_of object) objects.old.items objects.new.items) }
     ensures err { OnErr result (objects.new.items ≡ objects.old.items) }
 {
     match place_of(objects.as_slice(), object.path.as_str()) {
@@ -87,8 +88,11 @@ pub(crate) fn put_object(
     bytes: &[u8],
     second: u64,
 ) -> Result<(), NoMemory>
-    ensures noted { OnOk result (IsNoted (note_of call path.now bytes.now second) changes.old.items changes.new.items) }
-    ensures stored { OnOk result (IsStored path.now (record { bytes = bytes.now; second = second }) objects.old.items objects.new.items) }
+    ensures noted { OnOk result
+        (IsNoted (note_of call path.now bytes.now second) changes.old.items changes.new.items) }
+    ensures stored { OnOk result
+        (IsStored path.now (record { bytes = bytes.now; second = second }) objects.old.items
+        objects.new.items) }
     ensures same_notes { OnErr result (noted changes.new.items ≡ noted changes.old.items) }
     ensures same_objects { OnErr result (pairs objects.new.items ≡ pairs objects.old.items) }
 {

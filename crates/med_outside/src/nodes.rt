@@ -43,7 +43,8 @@ pub trait Snap: Drop {
 
     /// The text of the schema.
     fn schema(&mut self, alloc: Global) -> Result<Vec<u8>, Denied>
-        ensures bytes { IfOk result (λ bytes. IfSome (held self.old) (λ s. bytes.items ≡ s.schema)) }
+        ensures bytes { IfOk result
+            (λ bytes. IfSome (held self.old) (λ s. bytes.items ≡ s.schema)) }
         ensures same { held self.new ≡ held self.old }
         ensures cause { HasCause (faults self.old) (faults self.new) result };
 

@@ -68,20 +68,24 @@ pub trait Storage: Sized {
             → MayPut path.now bytes.now (state self.old) (state self.new) (stood_since self.old)
             (stood_since self.new) }
         ensures memory { IsErrOf result Denied.Memory
-            → Looks (state self.old) (state self.new) (stood_since self.old) (stood_since self.new) }
+            → Looks (state self.old) (state self.new) (stood_since self.old)
+            (stood_since self.new) }
         ensures cause { HasCause (state self.old).faults (state self.new).faults result };
 
     /// The objects whose path begins with a text, in byte order of their paths.
     fn list(&mut self, alloc: Global, under: &str) -> Result<Vec<Entry>, Denied>
         ensures entries { IfOk result
-            (λ entries. IfSome (state self.old).content (λ c. entries.items ≡ listing under.now c)) }
+            (λ entries. IfSome (state self.old).content
+            (λ c. entries.items ≡ listing under.now c)) }
         ensures looks { Looks (state self.old) (state self.new) (stood_since self.old)
             (stood_since self.new) }
         ensures cause { HasCause (state self.old).faults (state self.new).faults result };
 
     /// What it holds now is one of what it held since an earlier step.
-    ghost counts_now: { (store : Self) (t : ℕ) (c : Content) → t ≤ (state store).step → (state store).content ≡ Some c → stood_since store t c };
+    ghost counts_now: { (store : Self) (t : ℕ) (c : Content) → t ≤ (state store).step
+        → (state store).content ≡ Some c → stood_since store t c };
 
     /// Since the present step it held nothing else.
-    ghost only_now: { (store : Self) (c : Content) → stood_since store (state store).step c → (state store).content ≡ Some c };
+    ghost only_now: { (store : Self) (c : Content) → stood_since store (state store).step c
+        → (state store).content ≡ Some c };
 }

@@ -19,8 +19,8 @@ fn first_backup_or_no_memory(alloc: Global) -> Result<bool, NoMemory> {
     Ok(is_done || is_refused)
 }
 
-// With ample memory `one_file_is_backed_up_and_its_name_is_taken` of rows.rt says the same and more.
-// Beside the gate each allocation of this test is refused in turn (tools/memory-trials).
+// With ample memory `one_file_is_backed_up_and_its_name_is_taken` of rows.rt says the same and
+// more. Beside the gate each allocation of this test is refused in turn (tools/memory-trials).
 #[test]
 fn want_of_memory_leaves_the_first_puts(rt: HostRuntime) {
     match first_backup_or_no_memory(rt.alloc()) {

@@ -57,7 +57,8 @@ fn a_store_lists_its_plain_files_in_byte_order(rt: HostRuntime) -> Result<(), Fa
     let listed = list_twice(alloc, &mut store)?;
     let seen = (listed.as_str(), is_refused, start <= schema);
     let wanted = format!(in alloc;
-        "a-b/x 2 {dashed}\na/x 0 {empty}\nn1/b1/meta/schema.cql 3 {schema}\nn1/b1/meta/schema.cql 3 {schema}\n"
+        "a-b/x 2 {dashed}\na/x 0 {empty}\nn1/b1/meta/schema.cql 3 {schema}\n\
+        n1/b1/meta/schema.cql 3 {schema}\n"
     )?;
     assert_eq!(rt; seen, (wanted.as_str(), true, true));
     Ok(())

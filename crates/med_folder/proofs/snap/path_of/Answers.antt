@@ -8,7 +8,8 @@ use Rattle.med_folder.proofs.snap.path_of.Goals as goal
 
 pub returns : goal.returns
 returns c =
-    let found = rw c.in-Some.is at (split_once_first 46 _ _ c.split_once.ensures.cases (omega arith)) in
+    let found = rw c.in-Some.is at
+    (split_once_first 46 _ _ c.split_once.ensures.cases (omega arith)) in
     let first = rw c.as_str-table.ensures.value at found in
     let key = c.args.key.now in
     let own = table_folder key.keyspace (before_first is_dot key.table) c.args.tag.now in
