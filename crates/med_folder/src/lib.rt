@@ -23,6 +23,3 @@ pub use nodes::FolderNodes;
 pub use sink::RealSink;
 pub use snap::FolderSnap;
 pub use store::FolderStore;
-
-#[cfg(test)]
-mod tests;

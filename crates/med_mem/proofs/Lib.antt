@@ -3,4 +3,3 @@ pub mod Moments
 pub mod Places
 pub mod Keys
 pub mod Given
-pub mod FirstKey

@@ -18,6 +18,3 @@ pub use object::MemObject;
 pub use sink::MemSink;
 pub use snapshot::{MemFile, MemOpened, MemSnap};
 pub use store::MemStore;
-
-#[cfg(test)]
-mod tests;

@@ -1,5 +1,4 @@
-//! Tests that cross crates: the worked rows of the commands over the outside in memory, and one
-//! suite that every storage has to pass.
+//! Tests that cross crates: the worked rows of the commands over the outside in memory.
 //!
 //! The crate has no code of its own. Expected texts come from the rules, never from a run.
 #![tactic(auto)]
@@ -12,5 +11,3 @@ mod refused;
 mod rows;
 #[cfg(test)]
 mod said;
-#[cfg(test)]
-mod storages;

@@ -1,5 +1,24 @@
 //! Tests of the outside in memory and as folders: the public calls of med_mem and med_folder.
 //!
-//! The crate has no code of its own. A table is one text: a row a line, its cells divided by bars,
-//! with `¶` for a line feed within a cell. Expected values come from the rules, never from a run.
+//! The crate has no code of its own. A table is one text: a row a line, a call and its answer with
+//! ` => ` between them. Expected values come from the rules, never from a run.
 #![tactic(auto)]
+
+#[cfg(test)]
+mod calls;
+#[cfg(test)]
+mod clocks;
+#[cfg(test)]
+mod folders;
+#[cfg(test)]
+mod memory;
+#[cfg(test)]
+mod names;
+#[cfg(test)]
+mod places;
+#[cfg(test)]
+mod sinks;
+#[cfg(test)]
+mod snapshots;
+#[cfg(test)]
+mod storages;

@@ -1,0 +1,164 @@
+// A storage of folders over a system whose clock and files fail where told.
+use crate::calls::{put, refusal};
+use med_base::Layout;
+use med_folder::FolderStore;
+use med_outside::Storage;
+use std::alloc::{Alloc, Allocator, Global};
+use std::cell::Cell;
+use std::fs::{Files, Metadata, OpenOptions};
+use std::io;
+use std::io::ErrorKind;
+use std::time::{Clock, Duration};
+
+// The system. Its clock can be read as often as `readings` says and answers the second 7, and what
+// has a name that ends in a letter isn't opened.
+#[derive(Clone, Drop)]
+struct Failing<'a, R> {
+    rt: R,
+    readings: &'a Cell<u8>,
+    letter: &'a Cell<char>,
+}
+
+impl<R: Clock> Clock for Failing<'_, R> {
+    fn monotonic(&self) -> io::Result<Duration> {
+        self.rt.monotonic()
+    }
+
+    fn since_1970(&self) -> io::Result<Duration> {
+        match self.readings.get().checked_sub(1) {
+            Some(readings) => {
+                self.readings.set(readings);
+                Ok(Duration::from_secs(7))
+            }
+            None => Err(io::Error::from(ErrorKind::Unsupported)),
+        }
+    }
+}
+
+impl<R: Alloc<A = Global>> Alloc for Failing<'_, R> {
+    type A = Global;
+
+    fn alloc(&self) -> Global {
+        self.rt.alloc()
+    }
+}
+
+impl<R: Files> Files for Failing<'_, R> {
+    type File = R::File;
+
+    type Dir = R::Dir;
+
+    fn open_file(&self, how: &OpenOptions, path: &str) -> io::Result<R::File> {
+        if path.ends_with(self.letter.get()) {
+            return Err(io::Error::from(ErrorKind::PermissionDenied));
+        }
+        self.rt.open_file(how, path)
+    }
+
+    fn open_dir(&self, path: &str) -> io::Result<R::Dir> {
+        self.rt.open_dir(path)
+    }
+
+    fn metadata(&self, path: &str) -> io::Result<Metadata> {
+        self.rt.metadata(path)
+    }
+
+    fn symlink_metadata(&self, path: &str) -> io::Result<Metadata> {
+        self.rt.symlink_metadata(path)
+    }
+
+    fn copy(&self, from: &str, to: &str) -> io::Result<u64> {
+        self.rt.copy(from, to)
+    }
+
+    fn rename(&self, from: &str, to: &str) -> io::Result<()> {
+        self.rt.rename(from, to)
+    }
+
+    fn remove_file(&self, path: &str) -> io::Result<()> {
+        self.rt.remove_file(path)
+    }
+
+    fn create_dir(&self, path: &str) -> io::Result<()> {
+        self.rt.create_dir(path)
+    }
+
+    fn create_dir_with_mode(&self, path: &str, mode: u32) -> io::Result<()> {
+        self.rt.create_dir_with_mode(path, mode)
+    }
+
+    fn remove_dir(&self, path: &str) -> io::Result<()> {
+        self.rt.remove_dir(path)
+    }
+
+    fn remove_dir_all<B: Allocator>(&self, alloc: B, path: &str) -> io::Result<()> {
+        self.rt.remove_dir_all(alloc, path)
+    }
+}
+
+#[test]
+fn a_clock_that_cant_be_read_gives_the_last_second(rt: HostRuntime) {
+    let (readings, letter) = (Cell::new(1), Cell::new('-'));
+    let failing = Failing {
+        rt,
+        readings: &readings,
+        letter: &letter,
+    };
+    let mut store = FolderStore::new(rt.alloc(), failing);
+    assert_eq!(rt; store.now(), 7);
+    assert_eq!(rt; store.now(), 7);
+}
+
+// A put of `a/b/x` where what ends in a letter isn't opened answers `done` or a refusal.
+fn is_right<S: Storage>(
+    alloc: Global,
+    store: &mut S,
+    letter: &Cell<char>,
+    row: &str,
+) -> Option<bool> {
+    let (unopened, wanted) = row.split_once(" => ")?;
+    letter.set(unopened.chars().next()?);
+    match put(alloc, store, "a/b/x", "x") {
+        Ok(_) => Some(wanted == "done"),
+        Err(denied) => Some(refusal(denied) == wanted),
+    }
+}
+
+// The first row whose put is answered otherwise.
+fn first_wrong<'a, S: Storage>(
+    alloc: Global,
+    store: &mut S,
+    letter: &Cell<char>,
+    table: &'a str,
+) -> Option<&'a str> {
+    for row in table.split('\n') {
+        if is_right(alloc, store, letter, row) != Some(true) {
+            return Some(row);
+        }
+    }
+    None
+}
+
+// None of the folders on the way, and each of them, from the last to the first.
+const UNOPENED: &str = "\
+- => done
+b => failed
+a => failed
+k => failed";
+
+#[test]
+fn each_folder_on_the_way_is_synced(rt: HostRuntime) {
+    let (readings, letter) = (Cell::new(0), Cell::new('-'));
+    let failing = Failing {
+        rt,
+        readings: &readings,
+        letter: &letter,
+    };
+    let mut store = FolderStore::new(rt.alloc(), failing);
+    let layout = Layout::plain(rt.alloc());
+    assert_eq!(rt; store.open(rt.alloc(), "w", "k", &layout), Ok(()));
+    assert_eq!(rt;
+        first_wrong(rt.alloc(), &mut store, &letter, UNOPENED),
+        None
+    );
+}
