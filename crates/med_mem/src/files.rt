@@ -13,7 +13,7 @@ use std::alloc::Global;
 use std::marker::Model;
 
 /// A file, and its name.
-#[derive(Debug, Drop)]
+#[derive(Drop)]
 pub(crate) struct AddedFile {
     name: String,
     bytes: Vec<u8>,
@@ -21,7 +21,7 @@ pub(crate) struct AddedFile {
 
 /// Files in memory. A call fails only where `fail_at` says so, or where no call more can be
 /// counted.
-#[derive(Debug, Drop)]
+#[derive(Drop)]
 pub struct MemFiles {
     files: Vec<AddedFile>,
     failing: Vec<u64>,

@@ -11,7 +11,7 @@ use std::alloc::Global;
 use std::marker::Model;
 
 /// A snapshot, and what it was added for.
-#[derive(Debug, Drop)]
+#[derive(Drop)]
 pub(crate) struct Added {
     root: String,
     node: String,
@@ -20,7 +20,7 @@ pub(crate) struct Added {
 }
 
 /// Nodes in memory. No call of them fails.
-#[derive(Debug, Drop)]
+#[derive(Drop)]
 pub struct MemNodes {
     snaps: Vec<Added>,
     faults: u64,

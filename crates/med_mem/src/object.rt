@@ -10,7 +10,7 @@ use std::alloc::Global;
 use std::cmp::Ordering;
 
 /// An object of a bucket. Its second is a whole one since 1970-01-01T00:00:00Z.
-#[derive(Debug, Drop)]
+#[derive(Drop)]
 pub struct MemObject {
     pub path: ObjPath,
     pub bytes: Vec<u8>,
@@ -18,7 +18,7 @@ pub struct MemObject {
 }
 
 /// An object that was stored, and how many calls had been made by then.
-#[derive(Debug, Drop)]
+#[derive(Drop)]
 pub(crate) struct Change {
     pub(crate) call: u64,
     pub(crate) object: MemObject,

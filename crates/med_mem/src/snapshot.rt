@@ -15,21 +15,21 @@ use std::cmp::Ordering;
 use std::marker::Model;
 
 /// A file of a snapshot.
-#[derive(Debug, Drop)]
+#[derive(Drop)]
 pub struct MemFile {
     pub key: RawKey,
     pub bytes: Vec<u8>,
 }
 
 /// The files of a snapshot, and the text of its schema. Of two files with one key the first counts.
-#[derive(Debug, Drop)]
+#[derive(Drop)]
 pub struct MemSnap {
     pub files: Vec<MemFile>,
     pub schema: Vec<u8>,
 }
 
 /// A snapshot that was opened. No call of it fails.
-#[derive(Debug, Drop)]
+#[derive(Drop)]
 pub struct MemOpened {
     snap: MemSnap,
     faults: u64,

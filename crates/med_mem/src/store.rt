@@ -1,5 +1,5 @@
 // A storage in memory. It keeps a record of its changes, which tells the contents that stood.
-ghost use Rattle.std.specs.Prelude.{◌≡◌, IfOk, OnOk, OnErr};
+ghost use Rattle.std.specs.Prelude.{◌≡◌, IfOk, OnOk, OnErr, string_bytes};
 ghost use Rattle.std.specs.FinMap.{entries};
 ghost use Rattle.med_outside.specs.Causes.{HasCause};
 ghost use Rattle.med_outside.specs.Storage.{listing};
@@ -14,8 +14,26 @@ use med_outside::{Denied, Entry, Storage};
 use std::alloc::Global;
 use std::marker::Model;
 
+/// What a store was opened with.
+#[derive(Drop)]
+struct Bucket {
+    base: String,
+    name: String,
+    layout: Layout,
+}
+
+fn new_bucket(alloc: Global, base: &str, name: &str, prefix: &Layout) -> Result<Bucket, NoMemory>
+    ensures { IfOk result (λ bucket. (string_bytes bucket.base ≡ base.now)
+        × (string_bytes bucket.name ≡ name.now) × (bucket.layout ≡ prefix.now)) }
+{
+    let base = String::from_str(alloc, base)?;
+    let name = String::from_str(alloc, name)?;
+    let layout = prefix.copy(alloc)?;
+    Ok(Bucket { base, name, layout })
+}
+
 /// A storage in memory. A call fails only where the number of calls is at its last value.
-#[derive(Debug, Drop)]
+#[derive(Drop)]
 pub struct MemStore {
     objects: Vec<MemObject>,
     changes: Vec<Change>,
@@ -23,9 +41,7 @@ pub struct MemStore {
     tick: u64,
     calls: u64,
     faults: u64,
-    base: String,
-    bucket: String,
-    layout: Layout,
+    bucket: Bucket,
     opens: u64,
 }
 
@@ -38,7 +54,8 @@ impl Model for MemStore {
     ghost Value = { Told };
 
     ghost view = { λ m. told_by m.changes.items m.clock m.tick m.calls m.faults
-        (terms_of (string_bytes m.base) (string_bytes m.bucket) m.layout m.opens) };
+        (terms_of (string_bytes m.bucket.base) (string_bytes m.bucket.name) m.bucket.layout
+        m.opens) };
 
     ghost invariant = { λ m. Tells m.objects.items m.changes.items m.calls };
 }
@@ -57,9 +74,11 @@ impl MemStore {
             tick,
             calls: 0,
             faults: 0,
-            base: String::new(alloc),
-            bucket: String::new(alloc),
-            layout: Layout::plain(alloc),
+            bucket: Bucket {
+                base: String::new(alloc),
+                name: String::new(alloc),
+                layout: Layout::plain(alloc),
+            },
             opens: 0,
         }
     }
@@ -136,12 +155,7 @@ impl Storage for MemStore {
             return Err(Denied::Failed);
         };
         self.calls = calls;
-        let base = String::from_str(alloc, base)?;
-        let bucket = String::from_str(alloc, bucket)?;
-        let layout = prefix.copy(alloc)?;
-        self.base = base;
-        self.bucket = bucket;
-        self.layout = layout;
+        self.bucket = new_bucket(alloc, base, bucket, prefix)?;
         self.opens = self.opens.saturating_add(1);
         Ok(())
     }
