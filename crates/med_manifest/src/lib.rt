@@ -17,12 +17,3 @@ mod written;
 pub use laws::manifests_are_one;
 pub use manifest::{FileRecord, Manifest};
 pub use why::{ManifestError, ManifestWhy};
-
-#[cfg(test)]
-mod answers;
-#[cfg(test)]
-mod fault_tests;
-#[cfg(test)]
-mod read_tests;
-#[cfg(test)]
-mod tests;

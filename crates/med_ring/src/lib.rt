@@ -16,8 +16,3 @@ mod written;
 pub use error::{RingError, RingWhy};
 pub use laws::one_ring_of_bytes;
 pub use ring::{Host, Ring};
-
-#[cfg(test)]
-mod form_tests;
-#[cfg(test)]
-mod tests;

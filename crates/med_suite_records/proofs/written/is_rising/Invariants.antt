@@ -1,7 +1,7 @@
 use Rattle.std.proofs.Common.{map, length}
 use Rattle.med_base.specs.Key.{AreRising}
 use Rattle.med_manifest.specs.declared.manifest.FileRecord.{FileRecord}
-use Rattle.med_manifest.proofs.tests.is_rising.Given as goal
+use Rattle.med_suite_records.proofs.written.is_rising.Given as goal
 
 -- all files are in order if those that are left are
 abbrev pub invariant-loop-rest : goal.invariant-loop-rest

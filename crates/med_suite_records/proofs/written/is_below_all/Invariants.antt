@@ -4,7 +4,7 @@ use Rattle.std.specs.declared.cmp.Ordering.TheVariants.{Less}
 use Rattle.med_base.specs.declared.key.FileKey.{FileKey}
 use Rattle.med_base.specs.Key.{key_cmp}
 use Rattle.med_manifest.specs.declared.manifest.FileRecord.{FileRecord}
-use Rattle.med_manifest.proofs.tests.is_below_all.Given as goal
+use Rattle.med_suite_records.proofs.written.is_below_all.Given as goal
 
 -- the key is below each of these files' keys
 abbrev IsBelowAll : FileKey → List FileRecord → Type 0
