@@ -19,7 +19,7 @@ use std::alloc::Global;
 
 /// A file of a backup: its key in the snapshot, the path of the object that holds it, and the size
 /// and MD5 of its bytes.
-#[derive(Debug, Drop)]
+#[derive(Drop)]
 pub struct FileRecord {
     pub key: FileKey,
     pub path: ObjPath,
@@ -27,7 +27,7 @@ pub struct FileRecord {
 }
 
 /// The files of a backup.
-#[derive(Debug, Drop)]
+#[derive(Drop)]
 pub struct Manifest {
     pub files: Vec<FileRecord>,
 }

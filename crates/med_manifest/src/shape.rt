@@ -14,7 +14,7 @@ use serde_json::Value;
 use std::alloc::Global;
 
 /// A file as the text names it.
-#[derive(Clone, Copy, Debug)]
+#[derive(Clone, Copy)]
 pub(crate) struct NamedFile<'a> {
     pub(crate) keyspace: &'a str,
     pub(crate) table: &'a str,

@@ -9,7 +9,7 @@ use std::alloc::{AllocError, AllocFailed};
 
 /// Why bytes are not the manifest of a backup: their first fault. The text comes before the
 /// tables, all tables before the files, and the files come one after another.
-#[derive(Debug, Drop)]
+#[derive(Drop)]
 pub enum ManifestWhy {
     /// The bytes are not UTF-8, or not one JSON value with a nesting of at most 127.
     NotJson,
@@ -26,7 +26,7 @@ pub enum ManifestWhy {
 }
 
 /// Why the reader of manifests gave no answer.
-#[derive(Debug, Drop)]
+#[derive(Drop)]
 pub enum ManifestError {
     /// The bytes are not the manifest of the backup.
     Why(ManifestWhy),
