@@ -9,7 +9,7 @@ use med_json::JsonError;
 use std::alloc::{AllocError, AllocFailed, Global};
 
 /// Why bytes are no token map.
-#[derive(Debug, Drop)]
+#[derive(Drop)]
 pub enum RingWhy {
     /// The bytes aren't UTF-8, or no JSON text that nests at most 127 deep.
     NotJson,
@@ -26,7 +26,7 @@ pub enum RingWhy {
 }
 
 /// Why no ring was read.
-#[derive(Debug, Drop)]
+#[derive(Drop)]
 pub enum RingError {
     /// The bytes are no token map.
     Why(RingWhy),

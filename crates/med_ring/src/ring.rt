@@ -18,7 +18,7 @@ use std::alloc::Global;
 use std::marker::Model;
 
 /// A host of a ring.
-#[derive(Debug, Drop)]
+#[derive(Drop)]
 pub struct Host {
     pub name: Fqdn,
     pub tokens: Vec<i64>,
@@ -29,7 +29,7 @@ pub struct Host {
 
 /// The hosts of a cluster with their tokens, in byte order of their names. No name and no token
 /// stands twice.
-#[derive(Debug, Drop)]
+#[derive(Drop)]
 pub struct Ring {
     hosts: Vec<Host>,
 }
