@@ -32,12 +32,18 @@ fn host_value(alloc: Global, host: &Host) -> Result<Value, NoMemory>
     Ok(json!(in alloc; {"dc": dc, "is_up": is_up, "rack": rack, "tokens": tokens})?)
 }
 
+fn token_value(token: i64) -> Value
+    ensures { view result ≡ token_data token }
+{
+    Value::from(token)
+}
+
 fn tokens_value(alloc: Global, tokens: &[i64]) -> Result<Vec<Value>, NoMemory>
     ensures { IfOk result (λ values. map view values.items ≡ map token_data tokens.now) }
 {
     let mut values = Vec::new(alloc);
     for token in tokens {
-        values.push(Value::from(*token))?;
+        values.push(token_value(*token))?;
     }
     Ok(values)
 }
