@@ -3,13 +3,17 @@ use med_base::{BackupName, Fqdn, Layout};
 use med_manifest::{FileRecord, Manifest, ManifestError, ManifestWhy};
 use std::alloc::Global;
 
+// The text, and behind it the path and the size of the file.
+fn with_file(alloc: Global, told: &str, file: &FileRecord) -> Option<String> {
+    let path = file.path.as_str();
+    let size = file.fingerprint.size;
+    format!(in alloc; "{told} {path} {size};").ok()
+}
+
 fn files_told(alloc: Global, files: &[FileRecord]) -> Option<String> {
     let mut told = String::from_str(alloc, "files").ok()?;
     for file in files {
-        let path = file.path.as_str();
-        let size = file.fingerprint.size;
-        let more = format!(in alloc; " {path} {size};").ok()?;
-        told.push_str(more.as_str()).ok()?;
+        told = with_file(alloc, told.as_str(), file)?;
     }
     Some(told)
 }
