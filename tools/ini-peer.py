@@ -1,7 +1,7 @@
 #!/usr/bin/env python3
-"""Compares the texts of crates/med_ini/src/tests.rt with Python's configparser.
+"""Compares the texts of crates/med_suite_input/src/ini.rt with Python's configparser.
 
-Each row of four texts there is a file, a section, an option, and what is told: `=` and the value,
+Each row of four cells there is a file, a section, an option, and what is told: `=` and the value,
 `none`, or `line NUM: KIND`. Rows where both agree are counted. The others must be those listed
 here, where this profile differs on purpose.
 """
@@ -11,10 +11,9 @@ import pathlib
 import re
 import sys
 
-TABLES = pathlib.Path(__file__).resolve().parent.parent / "crates/med_ini/src/tests.rt"
-TEXT = r'"((?:[^"\\]|\\.)*)"'
-ROW = re.compile(r"\(\s*" + r",\s*".join([TEXT] * 4) + r",?\s*\)")
-ESCAPES = re.compile(r"\\(u\{[0-9a-f]+\}|x[0-9a-f]{2}|.)")
+TABLES = pathlib.Path(__file__).resolve().parent.parent / "crates/med_suite_input/src/ini.rt"
+TABLE = re.compile(r'const \w+: &str = "((?:[^"\\]|\\.)*)";', re.DOTALL)
+ESCAPES = re.compile(r"\\(u\{[0-9a-f]+\}|x[0-9a-f]{2}|\n\s*|.)")
 PLAIN = {"n": "\n", "t": "\t", "r": "\r", "0": "\0", '"': '"', "\\": "\\"}
 
 # Files on which the two differ, and why.
@@ -37,9 +36,20 @@ def unescaped(text):
         code = found.group(1)
         if code[0] == "u":
             return chr(int(code[2:-1], 16))
+        if code[0] == "\n":
+            return ""
         return chr(int(code[1:], 16)) if code[0] == "x" else PLAIN[code]
 
     return ESCAPES.sub(char, text)
+
+
+def rows():
+    """The rows of four cells, with a line feed for each `¶`."""
+    for table in TABLE.findall(TABLES.read_text("utf-8")):
+        for row in unescaped(table).split("\n"):
+            cells = row.replace("¶", "\n").split("|")
+            if len(cells) == 4:
+                yield tuple(cells)
 
 
 def lines_of(text):
@@ -64,9 +74,9 @@ def peer_says(text, section, option):
 
 
 def main():
-    rows = [tuple(map(unescaped, found)) for found in ROW.findall(TABLES.read_text("utf-8"))]
-    agreed, unlisted, met = 0, 0, set()
-    for text, section, option, told in rows:
+    compared, agreed, unlisted, met = 0, 0, 0, set()
+    for text, section, option, told in rows():
+        compared += 1
         peer = peer_says(text, section, option)
         if peer == told:
             agreed += 1
@@ -79,8 +89,8 @@ def main():
     stale = sorted(ON_PURPOSE.keys() - met)
     for text in stale:
         print(f"{text!r}: listed, but both agree")
-    print(f"{len(rows)} rows, {agreed} agree, {unlisted} differ without a reason")
-    return 1 if unlisted or stale or not rows else 0
+    print(f"{compared} rows, {agreed} agree, {unlisted} differ without a reason")
+    return 1 if unlisted or stale or not compared else 0
 
 
 sys.exit(main())

@@ -22,8 +22,3 @@ pub use ini::Ini;
 pub use laws::one_reading;
 pub use overrides::Overrides;
 pub use read::read_ini;
-
-#[cfg(test)]
-mod config_tests;
-#[cfg(test)]
-mod tests;

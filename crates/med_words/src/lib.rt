@@ -18,8 +18,3 @@ mod values;
 pub use laws::one_request;
 pub use read::read_words;
 pub use request::{Command, Request, Usage, WordsError};
-
-#[cfg(test)]
-mod request_tests;
-#[cfg(test)]
-mod tests;
