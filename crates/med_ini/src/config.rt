@@ -12,7 +12,7 @@ use std::alloc::Global;
 use thiserror::Error;
 
 /// Why the options are refused: the first check that fails, in the order of the table.
-#[derive(Debug, Drop, PartialEq, Eq, Error)]
+#[derive(Debug, Drop, Error)]
 pub enum ConfigError {
     #[error("missing option {option}")]
     MissingOption { option: &'static str },

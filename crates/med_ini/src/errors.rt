@@ -9,7 +9,7 @@ use std::fmt;
 use thiserror::Error;
 
 /// What is wrong with a text. A line has at most one of the faults behind the first.
-#[derive(Clone, Copy, Debug, PartialEq, Eq)]
+#[derive(Clone, Copy, Debug)]
 pub enum IniKind {
     /// The text isn't UTF-8. This is told before any other fault.
     NotUtf8,
@@ -50,7 +50,7 @@ impl fmt::Display for IniKind {
 }
 
 /// Why a text was refused.
-#[derive(Clone, Copy, Debug, Drop, PartialEq, Eq, Error)]
+#[derive(Clone, Copy, Debug, Drop, Error)]
 pub enum IniError {
     #[error("line {line}: {kind}")]
     Fault { line: u64, kind: IniKind },

@@ -11,7 +11,7 @@ use med_base::NoMemory;
 use std::alloc::Global;
 
 /// What a line is.
-#[derive(Clone, Copy, Debug)]
+#[derive(Clone, Copy)]
 pub(crate) enum Label<'a> {
     Quiet,
     More(&'a str),
@@ -20,14 +20,14 @@ pub(crate) enum Label<'a> {
 }
 
 // An option by its section and key.
-#[derive(Clone, Copy, Debug)]
+#[derive(Clone, Copy)]
 pub(crate) struct Name<'a> {
     section: &'a str,
     key: &'a str,
 }
 
 /// Where the lines before leave the reader.
-#[derive(Debug, Drop)]
+#[derive(Drop)]
 pub(crate) struct Place<'a> {
     section: Option<&'a str>,
     in_option: bool,

@@ -16,7 +16,7 @@ use clap::error::ErrorKind;
 use std::alloc::Global;
 
 /// What the main options say.
-#[derive(Clone, Copy, Debug)]
+#[derive(Clone, Copy)]
 pub(crate) struct Main<'a> {
     pub(crate) config_file: Option<&'a str>,
     pub(crate) bucket: Option<&'a str>,
@@ -25,7 +25,7 @@ pub(crate) struct Main<'a> {
 }
 
 /// What the options of the command word say.
-#[derive(Clone, Copy, Debug)]
+#[derive(Clone, Copy)]
 pub(crate) struct Own<'a> {
     pub(crate) name: Option<&'a str>,
     pub(crate) mode: Option<&'a str>,
@@ -39,7 +39,7 @@ pub(crate) struct Own<'a> {
 }
 
 /// A command word, and what the options on both sides of it say.
-#[derive(Clone, Copy, Debug)]
+#[derive(Clone, Copy)]
 pub(crate) struct Line<'a> {
     pub(crate) main: Main<'a>,
     pub(crate) word: &'a str,
@@ -47,7 +47,7 @@ pub(crate) struct Line<'a> {
 }
 
 /// Why no line was read.
-#[derive(Clone, Copy, Debug, PartialEq, Eq)]
+#[derive(Clone, Copy)]
 pub(crate) enum LineError {
     /// The words are no line.
     Line,

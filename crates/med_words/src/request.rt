@@ -9,7 +9,7 @@ use med_ini::Overrides;
 use med_outside::Mode;
 
 /// What is wrong with the words.
-#[derive(Clone, Copy, Debug, PartialEq, Eq)]
+#[derive(Clone, Copy, Debug)]
 pub enum Usage {
     /// They are no line of the grammar.
     Line,
@@ -18,7 +18,7 @@ pub enum Usage {
 }
 
 /// Why the words ask for nothing.
-#[derive(Clone, Copy, Debug, PartialEq, Eq)]
+#[derive(Clone, Copy, Debug)]
 pub enum WordsError {
     /// The words ask for nothing.
     Usage(Usage),
@@ -36,7 +36,7 @@ impl From<NoMemory> for WordsError {
 
 /// What the words ask for: which file of options is read, what stands in for its options, and
 /// what is done.
-#[derive(Debug, Drop)]
+#[derive(Drop)]
 pub struct Request {
     pub config_file: String,
     pub over: Overrides,
@@ -44,7 +44,7 @@ pub struct Request {
 }
 
 /// A command word, with what its options say.
-#[derive(Debug, Drop)]
+#[derive(Drop)]
 pub enum Command {
     Backup {
         name: BackupName,

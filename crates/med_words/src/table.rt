@@ -4,7 +4,7 @@ ghost use Rattle.med_words.specs.Views.{opt_view, row_view};
 ghost use Rattle.med_words.specs.Tables.{main_options, commands};
 
 /// An option by its name: one with a value, which has to stand or may be left out, or a flag.
-#[derive(Clone, Copy, Debug)]
+#[derive(Clone, Copy)]
 pub(crate) enum Opt<'a> {
     Required(&'a str),
     Optional(&'a str),
@@ -12,7 +12,7 @@ pub(crate) enum Opt<'a> {
 }
 
 /// A command word with its options.
-#[derive(Clone, Copy, Debug)]
+#[derive(Clone, Copy)]
 pub(crate) struct Row<'a> {
     pub(crate) word: &'a str,
     pub(crate) options: &'a [Opt<'a>],

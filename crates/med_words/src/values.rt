@@ -14,7 +14,7 @@ use med_outside::Mode;
 use std::alloc::Global;
 
 /// The values of the options that are checked.
-#[derive(Debug, Drop)]
+#[derive(Drop)]
 pub(crate) struct Values {
     pub(crate) name: Option<BackupName>,
     pub(crate) mode: Mode,
