@@ -5,5 +5,6 @@ pub mod LabelLemmas
 pub mod LineLemmas
 pub mod OneFault
 pub mod OneReading
+pub mod PartLemmas
 pub mod Readings
 pub mod Rules

@@ -5,5 +5,6 @@ pub mod LabelViews
 pub mod Labels
 pub mod Lines
 pub mod Options
+pub mod Parts
 pub mod Texts
 pub mod Views

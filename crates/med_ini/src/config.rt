@@ -2,10 +2,8 @@
 ghost use Rattle.std.specs.Prelude.{◌≡◌, IfOk, IfErr};
 ghost use Rattle.med_ini.specs.Options.{config_fault, IsConfig, Blames};
 
-use crate::checks::{
-    base_of, bucket_of, check_provider, folder_of, layout_of, node_of, number_of, stored_in,
-    stored_over,
-};
+use crate::checks::{check_provider, stored_in};
+use crate::parts::{folders_of, names_of, numbers_of};
 use crate::{Ini, Overrides};
 use med_base::{Fqdn, Layout};
 use std::alloc::Global;
@@ -49,25 +47,19 @@ impl Config {
         ensures err { IfErr result (Blames (config_fault ini.now over.now)) }
     {
         check_provider(alloc, stored_in(ini, "storage_provider"))?;
-        let base = base_of(alloc, stored_in(ini, "base_path"))?;
-        let bucket = bucket_of(alloc, stored_over(ini, &over.bucket, "bucket_name"))?;
-        let layout = layout_of(alloc, stored_over(ini, &over.prefix, "prefix"))?;
-        let node = node_of(alloc, stored_over(ini, &over.fqdn, "fqdn"))?;
-        let age_days = number_of(ini, "max_backup_age", 0)?;
-        let count = number_of(ini, "max_backup_count", 0)?;
-        let grace_days = number_of(ini, "backup_grace_period_in_days", 10)?;
-        let nodes_root = folder_of(alloc, ini, "nodes", "/var/lib/medusa/nodes")?;
-        let targets_root = folder_of(alloc, ini, "targets", "/var/lib/medusa/targets")?;
+        let names = names_of(alloc, ini, over)?;
+        let numbers = numbers_of(ini)?;
+        let folders = folders_of(alloc, ini)?;
         Ok(Config {
-            base,
-            bucket,
-            layout,
-            node,
-            age_days,
-            count,
-            grace_days,
-            nodes_root,
-            targets_root,
+            base: names.base,
+            bucket: names.bucket,
+            layout: names.layout,
+            node: names.node,
+            age_days: numbers.age_days,
+            count: numbers.count,
+            grace_days: numbers.grace_days,
+            nodes_root: folders.nodes_root,
+            targets_root: folders.targets_root,
         })
     }
 }

@@ -13,6 +13,7 @@ mod labels;
 mod laws;
 mod lines;
 mod overrides;
+mod parts;
 mod read;
 mod reading;
 
