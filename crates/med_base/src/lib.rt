@@ -35,14 +35,3 @@ pub use layout::{Layout, MetaKind};
 pub use memory::NoMemory;
 pub use names::{BackupName, Fqdn, NameError};
 pub use path::ObjPath;
-
-#[cfg(test)]
-mod builder_tests;
-#[cfg(test)]
-mod digest_tests;
-#[cfg(test)]
-mod layout_tests;
-#[cfg(test)]
-mod test_values;
-#[cfg(test)]
-mod tests;

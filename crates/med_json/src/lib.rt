@@ -10,6 +10,3 @@ mod read;
 
 pub use keys::{list_in, number_in, text_in, text_or_empty_in, truth_in};
 pub use read::{JsonError, read_value};
-
-#[cfg(test)]
-mod tests;
