@@ -4,7 +4,7 @@ use crate::MetaKind;
 /// The entries that an index has of a backup: copies of its token map and its manifest, and empty
 /// objects that tell when it started, when it finished, and that it is differential. Times are in
 /// seconds since 1970-01-01T00:00:00Z.
-#[derive(Clone, Copy, Debug, PartialEq, Eq)]
+#[derive(Clone, Copy)]
 pub enum IndexKind {
     Tokenmap,
     Manifest,
@@ -14,14 +14,14 @@ pub enum IndexKind {
 }
 
 /// The objects that tell of the latest backup of a node: its name, and a copy of its token map.
-#[derive(Clone, Copy, Debug, PartialEq, Eq)]
+#[derive(Clone, Copy)]
 pub enum LatestKind {
     Name,
     Tokenmap,
 }
 
 /// What a path is, with the names in it.
-#[derive(Clone, Copy, Debug, PartialEq, Eq)]
+#[derive(Clone, Copy)]
 pub enum PathKind<'a> {
     /// A file that the backups of a node share.
     Shared {
