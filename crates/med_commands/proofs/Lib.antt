@@ -1,13 +1,3 @@
-pub mod Apart
-pub mod Composed
-pub mod Copied
-pub mod Ended
-pub mod ExactLemmas
-pub mod Finished
-pub mod KeyLists
-pub mod Lists
+pub mod BackupSteps
 pub mod OneSite
-pub mod Placed
 pub mod Printing
-pub mod Stands
-pub mod Statuses

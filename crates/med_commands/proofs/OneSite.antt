@@ -7,11 +7,10 @@ use Rattle.med_ini.specs.declared.config.Config.{Config}
 use Rattle.med_ini.specs.declared.overrides.Overrides.{Overrides}
 use Rattle.med_ini.proofs.OneFault.{fault_none}
 use Rattle.med_ini.proofs.OneReading.{one_reading_of}
-use Rattle.med_outside.specs.declared.mode.Mode.TheVariants.{Full}
-use Rattle.med_words.specs.Request.{Asked, backup}
-use Rattle.med_commands.specs.Headline.{Asks}
-use Rattle.med_commands.specs.Loaded.{Told, AreOverrides, Gives, HasBytes, IsConfigured, IsRefusedFor, BlamesFile, IsRefused}
-use Rattle.med_commands.specs.Site.{Site, site_of}
+use Rattle.med_words.specs.Request.{Asked}
+use Rattle.med_commands.specs.Loaded.{AreOverrides, Gives, HasBytes, IsConfigured, IsRefusedFor, BlamesFile, IsRefused}
+use Rattle.med_backup.specs.Site.{Site, site_of}
+use Rattle.med_outside.specs.World.{FileContents}
 use Rattle.med_commands.specs.declared.load.ConfigFault.{ConfigFault}
 use Rattle.med_commands.specs.declared.load.ConfigFault.TheVariants.{NoFile, Line, Missing, BadNumber, BadName, Provider}
 
@@ -68,7 +67,7 @@ site_read t c d f g =
 
 -- ---- a config file that is told
 
-module _ (files : Told) (asked : Asked) (file : Option (List ℕ))
+module _ (files : FileContents) (asked : Asked) (file : Option (List ℕ))
     (told : files asked.config_file ≡ Some file) where
   abbrev GivesIt : Config → Overrides → Type 0
   GivesIt config over = HasBytes (λ bytes. Gives over bytes config) file
@@ -78,7 +77,7 @@ module _ (files : Told) (asked : Asked) (file : Option (List ℕ))
       subst (λ (o : Option (Option (List ℕ))). IfSome o (HasBytes
       (λ bytes. Gives c.over bytes config))) told c.gives
 
-  one_site_of : (c d : Config) → IsConfigured files asked c → IsConfigured files asked d
+  pub one_site_of : (c d : Config) → IsConfigured files asked c → IsConfigured files asked d
       → site_of c ≡ site_of d
   one_site_of c d f g =
       let x = gives_it c f in
@@ -90,13 +89,6 @@ module _ (files : Told) (asked : Asked) (file : Option (List ℕ))
       g.overrides in
       site_read (texts_of given.entries g.over) c d
       (subst (λ (t : Texts). IsRead t c) texts x.2.options.read) given.options.read
-
-  pub one_site : (s t : Site) (n m : List ℕ) → Asks files asked s n → Asks files asked t m
-      → (s ≡ t) × (n ≡ m)
-  one_site s t n m f g = (
-    f.site_is ∙ one_site_of f.config g.config f.configured g.configured ∙ sym g.site_is,
-    (let same : backup n Full ≡ backup m Full = sym f.action ∙ g.action in cc same),
-  )
 
   -- no check fails where the file gives a configuration
   not_for : (fault : Fault) (config : Config) (c : IsConfigured files asked config)

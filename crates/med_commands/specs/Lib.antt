@@ -1,16 +1,8 @@
-pub mod Answers
-pub mod Backup
-pub mod Copies
-pub mod Ends
-pub mod Exact
 pub mod Fault
 pub mod Headline
 pub mod Loaded
-pub mod Placing
+pub mod Plans
 pub mod Printed
 pub mod Report
-pub mod Site
 pub mod Status
-pub mod Taken
 pub mod Texts
-pub mod Walked

@@ -6,16 +6,13 @@ use Rattle.med_ini.specs.Options.{Fault, missing, bad_number, bad_name, unsuppor
 use Rattle.med_ini.specs.declared.config.Config.{Config}
 use Rattle.med_ini.specs.declared.overrides.Overrides.{Overrides}
 use Rattle.med_outside.specs.Causes.{Rose}
+use Rattle.med_outside.specs.World.{FileContents}
 use Rattle.med_words.specs.Request.{Asked}
 use Rattle.med_commands.specs.Texts.{no_file_text, line_text, missing_text, bad_number_text, bad_name_text, provider_text}
 use Rattle.med_commands.specs.declared.load.ConfigFault.{ConfigFault}
 use Rattle.med_commands.specs.declared.load.ConfigFault.TheVariants.{NoFile, Line, Missing, BadNumber, BadName, Provider}
 use Rattle.med_commands.specs.declared.load.LoadError.{LoadError}
 use Rattle.med_commands.specs.declared.load.LoadError.TheVariants.{Refused, Read, Memory}
-
--- what files tell of each name: the bytes, or that there is no such file
-abbrev pub Told : Type 0
-Told = List ℕ → Option (Option (List ℕ))
 
 -- the overrides are those that are asked for
 pub record AreOverrides (asked : Asked) (over : Overrides) : Type 0 where
@@ -34,7 +31,7 @@ abbrev pub HasBytes : (List ℕ → Type 0) → Option (List ℕ) → Type 0
 HasBytes P file = (bytes : List ℕ) × (file ≡ Some bytes) × P bytes
 
 -- the config file that is asked for gives the configuration, under the overrides that are asked for
-pub record IsConfigured (files : Told) (asked : Asked) (config : Config) : Type 0 where
+pub record IsConfigured (files : FileContents) (asked : Asked) (config : Config) : Type 0 where
   pub over : Overrides
   pub overrides : AreOverrides asked over
   pub gives : IfSome (files asked.config_file) (HasBytes (λ bytes. Gives over bytes config))
@@ -60,7 +57,7 @@ BlamesFile over name file (NoFile told) = (string_bytes told ≡ name) × (file 
 BlamesFile over name file fault = HasBytes (λ bytes. BlamesBytes over bytes fault) file
 
 -- the config file that is asked for gives no configuration, for this reason
-pub record IsRefused (files : Told) (asked : Asked) (fault : ConfigFault) : Type 0 where
+pub record IsRefused (files : FileContents) (asked : Asked) (fault : ConfigFault) : Type 0 where
   pub over : Overrides
   pub overrides : AreOverrides asked over
   pub blames : IfSome (files asked.config_file)
@@ -84,7 +81,7 @@ BlamesReading over bytes Read = ⊥
 BlamesReading over bytes Memory = Unit {0}
 
 -- the same of the config file; the count of the files rose where it wasn't read
-abbrev pub BlamesLoad : Told → Asked → (before now : ℕ) → LoadError → Type 0
+abbrev pub BlamesLoad : FileContents → Asked → (before now : ℕ) → LoadError → Type 0
 BlamesLoad files asked before now (Refused fault) = IsRefused files asked fault
 BlamesLoad files asked before now Read = Rose before now
 BlamesLoad files asked before now Memory = Unit {0}

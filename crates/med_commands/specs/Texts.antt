@@ -1,10 +1,18 @@
--- The texts of faults that name something, and the tag of a backup's snapshot.
+-- The texts of refusals.
 use Rattle.std.specs.Prelude.{ℕ, List, ◌++◌, codes, decimal}
+use Rattle.med_backup.specs.Site.{tag_of}
 use Rattle.med_ini.specs.Texts.{kind_text}
 use Rattle.med_ini.specs.declared.errors.IniKind.{IniKind}
+use Rattle.med_words.specs.declared.request.Usage.{Usage}
+use Rattle.med_words.specs.declared.request.Usage.TheVariants as usage
 
 abbrev pub bad_value_text : List ℕ → List ℕ
 bad_value_text option = codes "bad value for " ++ option
+
+-- what is said of words that are refused
+abbrev pub usage_text : Usage → List ℕ
+usage_text usage.Line = codes "usage: medusa [options] command [options]"
+usage_text (usage.Value option) = bad_value_text option.now
 
 abbrev pub not_built_text : List ℕ → List ℕ
 not_built_text word = codes "not built " ++ word
@@ -30,10 +38,6 @@ provider_text name = codes "config: unsupported provider " ++ name
 
 abbrev pub taken_text : List ℕ → List ℕ → List ℕ
 taken_text name path = codes "name " ++ (name ++ (codes " is taken by " ++ path))
-
--- the snapshot's tag for a backup
-abbrev pub tag_of : List ℕ → List ℕ
-tag_of name = codes "medusa-" ++ name
 
 abbrev pub no_snapshot_text : List ℕ → List ℕ
 no_snapshot_text name = codes "no snapshot " ++ tag_of name

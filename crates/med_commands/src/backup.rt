@@ -1,19 +1,22 @@
 // The command `backup`.
-ghost use Rattle.std.specs.Prelude.{◌≡◌, ◌≤◌, [], IfOk, IfErr, OnOk};
+ghost use Rattle.std.specs.Prelude.{◌≡◌, ◌≤◌, OnOk, OnErr};
 ghost use Rattle.med_outside.specs.declared.mode.Mode.TheVariants.{Full};
-ghost use Rattle.med_outside.specs.Counts.{AreClosed};
+ghost use Rattle.med_outside.specs.Ends.{Ends, Steps, seen};
+ghost use Rattle.med_outside.specs.World.{world, rose_of, rose_of_output, IsLater};
+ghost use Rattle.med_backup.specs.Plan.{Passed};
 ghost use Rattle.med_words.specs.Views.{asked_of};
 ghost use Rattle.med_words.specs.Request.{backup};
-ghost use Rattle.med_commands.specs.Ends.{IsUnprinted, IsEndOf};
-ghost use Rattle.med_commands.specs.Headline.{around, stream, IsBackedUp, HasMoments};
-ghost use Rattle.med_commands.specs.Printed.{Wrote};
+ghost use Rattle.med_commands.specs.Fault.{stop_of};
+ghost use Rattle.med_commands.specs.Headline.{says};
+ghost use Rattle.med_commands.specs.Plans.{on_output, plan_of};
+ghost use Rattle.med_commands.specs.Printed.{Wrote, WrotePart};
 ghost use Rattle.med_commands.specs.Report.{report_line};
 
 use crate::fault::{Fault, fault_of, fault_without_config};
 use crate::load::load;
-use crate::node::backup_node;
 use crate::print::write_whole;
 use crate::report::line_of;
+use med_backup::backup_node;
 use med_base::{BackupName, Fqdn, NoMemory};
 use med_manifest::FileRecord;
 use med_outside::{Files, Nodes, Sink, SinkFailed, Storage};
@@ -28,11 +31,16 @@ fn print_line<O: Sink>(
     files: &[FileRecord],
     out: &mut O,
 ) -> Result<(), Fault>
+    ensures step { Steps {T = Unit {0}}
+        (rose_of_output (O.state out.old).faults (O.state out.new).faults) Passed on_output
+        (seen (λ x. x) stop_of result) }
     ensures ok { OnOk result
-        (Wrote (report_line name.now node.now files.now) (O.taken out.old) (O.taken out.new)) }
-    ensures err { IfErr result (IsUnprinted (report_line name.now node.now files.now)
-        (stream (O.taken out.old) (O.taken out.new) (O.faults out.old) (O.faults out.new))) }
-    ensures later { O.faults out.old ≤ O.faults out.new }
+        (Wrote (report_line name.now node.now files.now) (O.state out.old).taken
+        (O.state out.new).taken) }
+    ensures err { OnErr result
+        (WrotePart (report_line name.now node.now files.now) (O.state out.old).taken
+        (O.state out.new).taken) }
+    ensures later { (O.state out.old).faults ≤ (O.state out.new).faults }
 {
     let line = match line_of(alloc, name, node, files) {
         Ok(line) => line,
@@ -40,7 +48,7 @@ fn print_line<O: Sink>(
     };
     match write_whole(out, line.as_str().as_bytes()) {
         Ok(()) => Ok(()),
-        Err(SinkFailed) => Err(Fault::Write),
+        Err(SinkFailed) => Err(Fault::Output),
     }
 }
 
@@ -56,28 +64,17 @@ pub(crate) fn back_up<F: Files, S: Storage, N: Nodes, O: Sink>(
     out: &mut O,
 ) -> Result<(), Fault>
     requires { (asked_of request.now).action ≡ backup name.now Full }
-    ensures ok { OnOk result
-        (IsBackedUp (asked_of request.now)
-        (around (F.held files.old) (N.snaps nodes.old) (S.state store.old) (S.state store.new)
-        (F.faults files.old) (F.faults files.new) (N.faults nodes.old) (N.faults nodes.new))
-        (λ line. Wrote line (O.taken out.old) (O.taken out.new))) }
-    ensures err { IfErr result
-        (IsEndOf (asked_of request.now)
-        (around (F.held files.old) (N.snaps nodes.old) (S.state store.old) (S.state store.new)
-        (F.faults files.old) (F.faults files.new) (N.faults nodes.old) (N.faults nodes.new))
-        (S.stood_since store.old) (S.stood_since store.new)
-        (stream (O.taken out.old) (O.taken out.new) (O.faults out.old) (O.faults out.new))) }
-    ensures moments { HasMoments (asked_of request.now)
-        (around (F.held files.old) (N.snaps nodes.old) (S.state store.old) (S.state store.new)
-        (F.faults files.old) (F.faults files.new) (N.faults nodes.old) (N.faults nodes.new))
-        (S.stood_since store.old) (S.stood_since store.new) }
-    ensures files_same { F.held files.new ≡ F.held files.old }
-    ensures nodes_same { N.snaps nodes.new ≡ N.snaps nodes.old }
-    ensures files_later { F.faults files.old ≤ F.faults files.new }
-    ensures closed { AreClosed (N.counts nodes.old) (N.counts nodes.new) }
-    ensures nodes_later { N.faults nodes.old ≤ N.faults nodes.new }
-    ensures store_later { (S.state store.old).faults ≤ (S.state store.new).faults }
-    ensures out_later { O.faults out.old ≤ O.faults out.new }
+    ensures ends { let a = world (F.state files.old) (N.state nodes.old) (S.state store.old)
+        (S.stood_since store.old) (O.state out.old) in
+        let b = world (F.state files.new) (N.state nodes.new) (S.state store.new)
+        (S.stood_since store.new) (O.state out.new) in
+        Ends (rose_of a b) says (plan_of (asked_of request.now) a b)
+        (seen (λ x. x) stop_of result) }
+    ensures later { IsLater
+        (world (F.state files.old) (N.state nodes.old) (S.state store.old)
+        (S.stood_since store.old) (O.state out.old))
+        (world (F.state files.new) (N.state nodes.new) (S.state store.new)
+        (S.stood_since store.new) (O.state out.new)) }
 {
     let told_name = match name.copy(alloc) {
         Ok(name) => name,
@@ -89,6 +86,6 @@ pub(crate) fn back_up<F: Files, S: Storage, N: Nodes, O: Sink>(
     };
     match backup_node(alloc, store, nodes, &config, name) {
         Ok(records) => print_line(alloc, name, &config.node, records.as_slice(), out),
-        Err(refusal) => Err(fault_of(told_name, refusal)),
+        Err(error) => Err(fault_of(told_name, error)),
     }
 }

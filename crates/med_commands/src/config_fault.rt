@@ -12,10 +12,10 @@ use med_ini::IniKind;
 use med_outside::{Sink, SinkFailed};
 
 fn say_line<E: Sink>(err: &mut E, line: u64, kind: IniKind) -> Result<(), SinkFailed>
-    ensures text { Prints (complaint (line_text line kind)) (E.taken err.old) (E.taken err.new)
+    ensures text { Prints (complaint (line_text line kind)) (E.state err.old).taken (E.state err.new).taken
         result }
-    ensures later { E.faults err.old ≤ E.faults err.new }
-    ensures failed { OnErr result (Rose (E.faults err.old) (E.faults err.new)) }
+    ensures later { (E.state err.old).faults ≤ (E.state err.new).faults }
+    ensures failed { OnErr result (Rose (E.state err.old).faults (E.state err.new).faults) }
 {
     let mut buffer = Buffer::new();
     let number = buffer.format(line);
@@ -33,10 +33,10 @@ fn say_line<E: Sink>(err: &mut E, line: u64, kind: IniKind) -> Result<(), SinkFa
 
 /// Tells why a config file gives no configuration, in one line.
 pub(crate) fn say_config<E: Sink>(err: &mut E, fault: &ConfigFault) -> Result<(), SinkFailed>
-    ensures text { Prints (complaint (config_text fault.now)) (E.taken err.old) (E.taken err.new)
+    ensures text { Prints (complaint (config_text fault.now)) (E.state err.old).taken (E.state err.new).taken
         result }
-    ensures later { E.faults err.old ≤ E.faults err.new }
-    ensures failed { OnErr result (Rose (E.faults err.old) (E.faults err.new)) }
+    ensures later { (E.state err.old).faults ≤ (E.state err.new).faults }
+    ensures failed { OnErr result (Rose (E.state err.old).faults (E.state err.new).faults) }
 {
     match fault {
         ConfigFault::NoFile { name } => say_named(err, b"config: no file ", name.as_bytes()),

@@ -7,18 +7,12 @@
 
 mod backup;
 mod config_fault;
-mod copy;
 mod fault;
-mod keys;
 mod load;
-mod look;
 mod main_call;
-mod node;
-mod place;
 mod print;
 mod report;
 mod status;
 
-pub use keys::{WalkError, walk};
 pub use main_call::{medusa_main, run_command, tell_no_memory};
 pub use status::Status;

@@ -57,25 +57,27 @@ fn config_in(alloc: Global, bytes: &[u8], over: &Overrides) -> Result<Config, Lo
     Err(LoadError::Refused(fault))
 }
 
-/// The configuration that the request asks for: that of its config file, under its overrides.
+/// The configuration that the request asks for: that of its config file, under its overrides. The
+/// name of the file is copied first, so that its absence is told without memory.
 pub(crate) fn load<F: Files>(
     alloc: Global,
     files: &mut F,
     request: &Request,
 ) -> Result<Config, LoadError>
-    ensures ok { IfOk result (IsConfigured (F.held files.old) (asked_of request.now)) }
+    ensures ok { IfOk result (IsConfigured (F.state files.old).contents (asked_of request.now)) }
     ensures err { IfErr result
-        (BlamesLoad (F.held files.old) (asked_of request.now) (F.faults files.old)
-        (F.faults files.new)) }
-    ensures same { F.held files.new ≡ F.held files.old }
-    ensures later { F.faults files.old ≤ F.faults files.new }
+        (BlamesLoad (F.state files.old).contents (asked_of request.now) (F.state files.old).faults
+        (F.state files.new).faults) }
+    ensures same { (F.state files.new).contents ≡ (F.state files.old).contents }
+    ensures later { (F.state files.old).faults ≤ (F.state files.new).faults }
 {
+    let name = match String::from_str(alloc, request.config_file.as_str()) {
+        Ok(name) => name,
+        Err(AllocError) => return Err(LoadError::Memory),
+    };
     match files.read(alloc, request.config_file.as_str()) {
         Ok(Some(bytes)) => config_in(alloc, bytes.as_slice(), &request.over),
-        Ok(None) => match String::from_str(alloc, request.config_file.as_str()) {
-            Ok(name) => Err(LoadError::Refused(ConfigFault::NoFile { name })),
-            Err(AllocError) => Err(LoadError::Memory),
-        },
+        Ok(None) => Err(LoadError::Refused(ConfigFault::NoFile { name })),
         Err(Denied::Failed) => Err(LoadError::Read),
         Err(Denied::Memory) => Err(LoadError::Memory),
     }

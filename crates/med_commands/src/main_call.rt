@@ -1,13 +1,14 @@
 // The top call.
-ghost use Rattle.std.specs.Prelude.{◌≡◌, ◌≤◌, [], false, IfErr, OnOk, map, string_bytes, codes};
-ghost use Rattle.med_outside.specs.Counts.{AreClosed};
+ghost use Rattle.std.specs.Prelude.{◌≡◌, ◌≤◌, map, string_bytes, codes};
+ghost use Rattle.med_outside.specs.Ends.{Ends, seen};
+ghost use Rattle.med_outside.specs.World.{world, rose_of, IsLater};
 ghost use Rattle.med_words.specs.Views.{asked_of};
-ghost use Rattle.med_commands.specs.Ends.{IsEndOf};
-ghost use Rattle.med_commands.specs.Exact.{IsExact, AreExact};
-ghost use Rattle.med_commands.specs.Headline.{around, stream, is_built, IsBackedUp, Answers, HasMoments, IsOutcome};
-ghost use Rattle.med_commands.specs.Printed.{Wrote, Complains};
-ghost use Rattle.med_commands.specs.Status.{code, IsCodeOf};
-ghost use Rattle.med_commands.specs.declared.status.Status.TheVariants.{Usage, Memory};
+ghost use Rattle.med_commands.specs.Fault.{stop_of};
+ghost use Rattle.med_commands.specs.Headline.{says, IsAnswered};
+ghost use Rattle.med_commands.specs.Plans.{plan_of, words_plan};
+ghost use Rattle.med_commands.specs.Printed.{Complains};
+ghost use Rattle.med_commands.specs.Status.{code};
+ghost use Rattle.med_commands.specs.declared.status.Status.TheVariants.{Memory};
 
 use crate::Status;
 use crate::backup::back_up;
@@ -25,28 +26,17 @@ fn run<F: Files, S: Storage, N: Nodes, O: Sink>(
     nodes: &mut N,
     out: &mut O,
 ) -> Result<(), Fault>
-    ensures ok { OnOk result
-        (IsBackedUp (asked_of request.now)
-        (around (F.held files.old) (N.snaps nodes.old) (S.state store.old) (S.state store.new)
-        (F.faults files.old) (F.faults files.new) (N.faults nodes.old) (N.faults nodes.new))
-        (λ line. Wrote line (O.taken out.old) (O.taken out.new))) }
-    ensures err { IfErr result
-        (IsEndOf (asked_of request.now)
-        (around (F.held files.old) (N.snaps nodes.old) (S.state store.old) (S.state store.new)
-        (F.faults files.old) (F.faults files.new) (N.faults nodes.old) (N.faults nodes.new))
-        (S.stood_since store.old) (S.stood_since store.new)
-        (stream (O.taken out.old) (O.taken out.new) (O.faults out.old) (O.faults out.new))) }
-    ensures moments { HasMoments (asked_of request.now)
-        (around (F.held files.old) (N.snaps nodes.old) (S.state store.old) (S.state store.new)
-        (F.faults files.old) (F.faults files.new) (N.faults nodes.old) (N.faults nodes.new))
-        (S.stood_since store.old) (S.stood_since store.new) }
-    ensures files_same { F.held files.new ≡ F.held files.old }
-    ensures nodes_same { N.snaps nodes.new ≡ N.snaps nodes.old }
-    ensures files_later { F.faults files.old ≤ F.faults files.new }
-    ensures closed { AreClosed (N.counts nodes.old) (N.counts nodes.new) }
-    ensures nodes_later { N.faults nodes.old ≤ N.faults nodes.new }
-    ensures store_later { (S.state store.old).faults ≤ (S.state store.new).faults }
-    ensures out_later { O.faults out.old ≤ O.faults out.new }
+    ensures ends { let a = world (F.state files.old) (N.state nodes.old) (S.state store.old)
+        (S.stood_since store.old) (O.state out.old) in
+        let b = world (F.state files.new) (N.state nodes.new) (S.state store.new)
+        (S.stood_since store.new) (O.state out.new) in
+        Ends (rose_of a b) says (plan_of (asked_of request.now) a b)
+        (seen (λ x. x) stop_of result) }
+    ensures later { IsLater
+        (world (F.state files.old) (N.state nodes.old) (S.state store.old)
+        (S.stood_since store.old) (O.state out.old))
+        (world (F.state files.new) (N.state nodes.new) (S.state store.new)
+        (S.stood_since store.new) (O.state out.new)) }
 {
     match &request.command {
         Command::Backup {
@@ -73,29 +63,12 @@ pub fn run_command<F: Files, S: Storage, N: Nodes, O: Sink, E: Sink>(
     out: &mut O,
     err: &mut E,
 ) -> u8
-    ensures answer { IsCodeOf result (Answers (asked_of request.now)
-        (around (F.held files.old) (N.snaps nodes.old) (S.state store.old) (S.state store.new)
-        (F.faults files.old) (F.faults files.new) (N.faults nodes.old) (N.faults nodes.new))
-        (S.stood_since store.old) (S.stood_since store.new)
-        (stream (O.taken out.old) (O.taken out.new) (O.faults out.old) (O.faults out.new))
-        (stream (E.taken err.old) (E.taken err.new) (E.faults err.old) (E.faults err.new))) }
-    ensures unbuilt { is_built (asked_of request.now).action ≡ false → result ≡ code Usage }
-    ensures exact { IsExact (asked_of request.now)
-        (around (F.held files.old) (N.snaps nodes.old) (S.state store.old) (S.state store.new)
-        (F.faults files.old) (F.faults files.new) (N.faults nodes.old) (N.faults nodes.new))
-        (stream (O.taken out.old) (O.taken out.new) (O.faults out.old) (O.faults out.new)) result }
-    ensures moments { HasMoments (asked_of request.now)
-        (around (F.held files.old) (N.snaps nodes.old) (S.state store.old) (S.state store.new)
-        (F.faults files.old) (F.faults files.new) (N.faults nodes.old) (N.faults nodes.new))
-        (S.stood_since store.old) (S.stood_since store.new) }
-    ensures files_same { F.held files.new ≡ F.held files.old }
-    ensures nodes_same { N.snaps nodes.new ≡ N.snaps nodes.old }
-    ensures files_later { F.faults files.old ≤ F.faults files.new }
-    ensures closed { AreClosed (N.counts nodes.old) (N.counts nodes.new) }
-    ensures nodes_later { N.faults nodes.old ≤ N.faults nodes.new }
-    ensures store_later { (S.state store.old).faults ≤ (S.state store.new).faults }
-    ensures out_later { O.faults out.old ≤ O.faults out.new }
-    ensures err_later { E.faults err.old ≤ E.faults err.new }
+    ensures answer { let a = world (F.state files.old) (N.state nodes.old) (S.state store.old)
+        (S.stood_since store.old) (O.state out.old) in
+        let b = world (F.state files.new) (N.state nodes.new) (S.state store.new)
+        (S.stood_since store.new) (O.state out.new) in
+        IsAnswered (plan_of (asked_of request.now) a b) a b (E.state err.old) (E.state err.new)
+        result }
 {
     match run(alloc, request, files, store, nodes, out) {
         Ok(()) => Status::Done.code(),
@@ -117,24 +90,12 @@ pub fn medusa_main<F: Files, S: Storage, N: Nodes, O: Sink, E: Sink>(
     out: &mut O,
     err: &mut E,
 ) -> u8
-    ensures outcome { IsOutcome (map string_bytes words.now)
-        (around (F.held files.old) (N.snaps nodes.old) (S.state store.old) (S.state store.new)
-        (F.faults files.old) (F.faults files.new) (N.faults nodes.old) (N.faults nodes.new))
-        (S.stood_since store.old) (S.stood_since store.new)
-        (stream (O.taken out.old) (O.taken out.new) (O.faults out.old) (O.faults out.new))
-        (stream (E.taken err.old) (E.taken err.new) (E.faults err.old) (E.faults err.new)) result }
-    ensures exact { AreExact (map string_bytes words.now)
-        (around (F.held files.old) (N.snaps nodes.old) (S.state store.old) (S.state store.new)
-        (F.faults files.old) (F.faults files.new) (N.faults nodes.old) (N.faults nodes.new))
-        (stream (O.taken out.old) (O.taken out.new) (O.faults out.old) (O.faults out.new)) result }
-    ensures files_same { F.held files.new ≡ F.held files.old }
-    ensures nodes_same { N.snaps nodes.new ≡ N.snaps nodes.old }
-    ensures files_later { F.faults files.old ≤ F.faults files.new }
-    ensures closed { AreClosed (N.counts nodes.old) (N.counts nodes.new) }
-    ensures nodes_later { N.faults nodes.old ≤ N.faults nodes.new }
-    ensures store_later { (S.state store.old).faults ≤ (S.state store.new).faults }
-    ensures out_later { O.faults out.old ≤ O.faults out.new }
-    ensures err_later { E.faults err.old ≤ E.faults err.new }
+    ensures answer { let a = world (F.state files.old) (N.state nodes.old) (S.state store.old)
+        (S.stood_since store.old) (O.state out.old) in
+        let b = world (F.state files.new) (N.state nodes.new) (S.state store.new)
+        (S.stood_since store.new) (O.state out.new) in
+        IsAnswered (words_plan (map string_bytes words.now) a b) a b (E.state err.old)
+        (E.state err.new) result }
 {
     match read_words(alloc, words) {
         Ok(request) => run_command(alloc, &request, files, store, nodes, out, err),
@@ -146,9 +107,9 @@ pub fn medusa_main<F: Files, S: Storage, N: Nodes, O: Sink, E: Sink>(
 /// Tells on `err` that there was no memory for the words, and answers the status for it.
 pub fn tell_no_memory<E: Sink>(err: &mut E) -> u8
     ensures status { result ≡ code Memory }
-    ensures line { Complains (codes "out of memory") (E.taken err.old) (E.taken err.new)
-        (E.faults err.old) (E.faults err.new) }
-    ensures later { E.faults err.old ≤ E.faults err.new }
+    ensures line { Complains (codes "out of memory") (E.state err.old).taken (E.state err.new).taken
+        (E.state err.old).faults (E.state err.new).faults }
+    ensures later { (E.state err.old).faults ≤ (E.state err.new).faults }
 {
     tell(err, &Fault::Memory).code()
 }

@@ -8,9 +8,9 @@ use med_outside::{Sink, SinkFailed};
 
 /// Writes a piece until the sink has taken it whole.
 pub(crate) fn write_whole<O: Sink>(out: &mut O, bytes: &[u8]) -> Result<(), SinkFailed>
-    ensures text { Prints bytes.now (O.taken out.old) (O.taken out.new) result }
-    ensures later { O.faults out.old ≤ O.faults out.new }
-    ensures failed { OnErr result (Rose (O.faults out.old) (O.faults out.new)) }
+    ensures text { Prints bytes.now (O.state out.old).taken (O.state out.new).taken result }
+    ensures later { (O.state out.old).faults ≤ (O.state out.new).faults }
+    ensures failed { OnErr result (Rose (O.state out.old).faults (O.state out.new).faults) }
 {
     let mut done = 0;
     while done < bytes.len() {
@@ -25,10 +25,10 @@ pub(crate) fn write_whole<O: Sink>(out: &mut O, bytes: &[u8]) -> Result<(), Sink
 
 /// Writes pieces one after another.
 pub(crate) fn write_pieces<O: Sink>(out: &mut O, pieces: &[&[u8]]) -> Result<(), SinkFailed>
-    ensures text { Prints (concat (map (λ x. x.now) pieces.now)) (O.taken out.old) (O.taken out.new)
+    ensures text { Prints (concat (map (λ x. x.now) pieces.now)) (O.state out.old).taken (O.state out.new).taken
         result }
-    ensures later { O.faults out.old ≤ O.faults out.new }
-    ensures failed { OnErr result (Rose (O.faults out.old) (O.faults out.new)) }
+    ensures later { (O.state out.old).faults ≤ (O.state out.new).faults }
+    ensures failed { OnErr result (Rose (O.state out.old).faults (O.state out.new).faults) }
 {
     for piece in pieces {
         match write_whole(out, piece) {
@@ -41,19 +41,19 @@ pub(crate) fn write_pieces<O: Sink>(out: &mut O, pieces: &[&[u8]]) -> Result<(),
 
 /// `medusa: `, the text and a line feed.
 pub(crate) fn say<E: Sink>(err: &mut E, text: &[u8]) -> Result<(), SinkFailed>
-    ensures text { Prints (complaint text.now) (E.taken err.old) (E.taken err.new) result }
-    ensures later { E.faults err.old ≤ E.faults err.new }
-    ensures failed { OnErr result (Rose (E.faults err.old) (E.faults err.new)) }
+    ensures text { Prints (complaint text.now) (E.state err.old).taken (E.state err.new).taken result }
+    ensures later { (E.state err.old).faults ≤ (E.state err.new).faults }
+    ensures failed { OnErr result (Rose (E.state err.old).faults (E.state err.new).faults) }
 {
     write_pieces(err, &[b"medusa: ".as_slice(), text, b"\n".as_slice()])
 }
 
 /// The same of a text in two parts.
 pub(crate) fn say_named<E: Sink>(err: &mut E, text: &[u8], name: &[u8]) -> Result<(), SinkFailed>
-    ensures text { Prints (complaint (text.now ++ name.now)) (E.taken err.old) (E.taken err.new)
+    ensures text { Prints (complaint (text.now ++ name.now)) (E.state err.old).taken (E.state err.new).taken
         result }
-    ensures later { E.faults err.old ≤ E.faults err.new }
-    ensures failed { OnErr result (Rose (E.faults err.old) (E.faults err.new)) }
+    ensures later { (E.state err.old).faults ≤ (E.state err.new).faults }
+    ensures failed { OnErr result (Rose (E.state err.old).faults (E.state err.new).faults) }
 {
     write_pieces(err, &[b"medusa: ".as_slice(), text, name, b"\n".as_slice()])
 }

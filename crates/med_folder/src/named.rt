@@ -51,9 +51,7 @@ fn read_named<R: Files>(rt: &R, alloc: Global, name: &str) -> io::Result<Option<
 }
 
 impl<R: Files> med_outside::Files for RealFiles<R> {
-    ghost held = { λ _ _. None };
-
-    ghost faults = { λ s. s };
+    ghost state = { λ s. record { contents = λ _. None; faults = s } };
 
     /// As the trait says. A link is followed; a folder is a fault.
     fn read(&mut self, alloc: Global, name: &str) -> Result<Option<Vec<u8>>, med_outside::Denied> {

@@ -1,12 +1,13 @@
 // Nodes as folders.
-ghost use Rattle.std.specs.Prelude.{◌≡◌, ℕ, None, IfOk};
-ghost use Rattle.med_folder.specs.Untold.{nodes_edge};
+ghost use Rattle.std.specs.Prelude.{◌≡◌, [], IfOk};
+ghost use Rattle.med_outside.specs.Counts.{tagged};
+ghost use Rattle.med_folder.specs.Untold.{nodes_edge, untold_nodes};
 
 use crate::FolderSnap;
 use crate::count::counted;
 use crate::snap::open_snap;
 use med_base::Fqdn;
-use med_outside::{Denied, Nodes};
+use med_outside::{Denied, Nodes, OpenedFor};
 use std::alloc::Global;
 use std::fs::Files;
 use std::marker::Model;
@@ -19,6 +20,7 @@ pub struct FolderNodes<R> {
     faults: u64,
     opened: u64,
     closed: u64,
+    last: OpenedFor,
 }
 
 impl<R> Model for FolderNodes<R> {
@@ -26,19 +28,20 @@ impl<R> Model for FolderNodes<R> {
 
     ghost Value = { NodesEdge };
 
-    ghost view = { λ s. nodes_edge s.faults s.opened s.closed };
+    ghost view = { λ s. nodes_edge s.faults s.opened s.closed s.last };
 }
 
 impl<R> FolderNodes<R> {
     /// Nodes without a fault, of which no snapshot was opened.
-    pub fn new(rt: R) -> FolderNodes<R>
-        ensures { result ≡ nodes_edge 0 0 0 }
+    pub fn new(alloc: Global, rt: R) -> FolderNodes<R>
+        ensures { result ≡ nodes_edge 0 0 0 (tagged [] [] []) }
     {
         FolderNodes {
             rt,
             faults: 0,
             opened: 0,
             closed: 0,
+            last: OpenedFor::nothing(alloc),
         }
     }
 }
@@ -46,11 +49,7 @@ impl<R> FolderNodes<R> {
 impl<R: Files + AllocGlobal + Clone + Drop> Nodes for FolderNodes<R> {
     type Snap = FolderSnap<R>;
 
-    ghost snaps = { λ _ _ _ _. None };
-
-    ghost faults = { λ s. s.faults };
-
-    ghost counts = { λ s. s.counts };
+    ghost state = { untold_nodes };
 
     fn open(
         &mut self,
@@ -59,9 +58,11 @@ impl<R: Files + AllocGlobal + Clone + Drop> Nodes for FolderNodes<R> {
         node: &Fqdn,
         tag: &str,
     ) -> Result<FolderSnap<R>, Denied> {
+        let opened = OpenedFor::of(alloc, root, node.as_str(), tag)?;
         let outcome = open_snap(&self.rt, alloc, root, node.as_str(), tag);
         let snap = counted(&mut self.faults, outcome)?;
         self.opened = self.opened.saturating_add(1);
+        self.last = opened;
         Ok(snap)
     }
 

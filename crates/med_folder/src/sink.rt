@@ -47,9 +47,7 @@ fn write_some<P: Print>(stream: &P, bytes: &[u8]) -> io::Result<usize>
 }
 
 impl<P: Print> Sink for RealSink<P> {
-    ghost taken = { λ _. None };
-
-    ghost faults = { λ s. s };
+    ghost state = { λ s. record { taken = None; faults = s } };
 
     fn write(&mut self, bytes: &[u8]) -> Result<usize, SinkFailed> {
         match write_some(&self.stream, bytes) {

@@ -2,6 +2,7 @@
 use Rattle.std.specs.Prelude.{ℕ, Bool, ◌||◌, ◌==◌, ◌+◌, ◌-◌, ◌^◌, List, [], ◌∷◌, ◌++◌, map, Option, Some, None, string_bytes, if◌then◌else◌}
 use Rattle.std.specs.List.{list_any}
 use Rattle.std.specs.Str.{bytes_eq}
+use Rattle.med_outside.specs.World.{FilesState}
 use Rattle.med_mem.specs.declared.files.AddedFile.{AddedFile}
 
 -- a file, and its name
@@ -69,3 +70,7 @@ named_by files failing calls faults = record {
   calls = calls;
   faults = faults;
 }
+
+-- what the trait sees of them
+abbrev pub files_state : Named → FilesState
+files_state m = record { contents = λ (name : List ℕ). Some (file_at name m); faults = m.faults }

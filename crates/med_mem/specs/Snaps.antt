@@ -6,8 +6,9 @@ use Rattle.std.specs.Map.{keys_of}
 use Rattle.std.specs.Str.{bytes_eq}
 use Rattle.med_base.specs.declared.key.FileKey.{FileKey}
 use Rattle.med_base.specs.Key.{key_eq}
-use Rattle.med_outside.specs.Counts.{SnapshotCounts}
+use Rattle.med_outside.specs.Counts.{SnapshotCounts, Tagged}
 use Rattle.med_outside.specs.Snapshot.{Snapshot, raw_name}
+use Rattle.med_outside.specs.World.{NodesState}
 use Rattle.med_mem.specs.Distinct.{distinct}
 use Rattle.med_mem.specs.declared.snapshot.MemFile.{MemFile}
 use Rattle.med_mem.specs.declared.snapshot.MemSnap.{MemSnap}
@@ -62,7 +63,7 @@ pub record Known : Type 0 where
   pub given : List Given
   -- how often a call failed
   pub faults : ℕ
-  -- how many snapshots were opened, and how many of them were closed
+  -- which snapshots were opened, and how many of them were closed
   pub counts : SnapshotCounts
 
 -- it was added for these
@@ -127,11 +128,19 @@ abbrev pub given : List Added → List Given
 given = map given_as
 
 -- what the fields of nodes mean
-abbrev pub known_by : List Added → (faults opened closed : ℕ) → Known
-known_by snaps faults opened closed = record {
+abbrev pub known_by : List Added → (faults opened closed : ℕ) → Tagged → Known
+known_by snaps faults opened closed last = record {
   given = given snaps;
   faults = faults;
-  counts = record { opened = opened; closed = closed };
+  counts = record { opened = opened; closed = closed; last = last };
+}
+
+-- what the trait sees of nodes in memory
+abbrev pub nodes_state : Known → NodesState
+nodes_state m = record {
+  snaps = λ (root node tag : List ℕ). Some (snapshot_at m root node tag);
+  faults = m.faults;
+  counts = m.counts;
 }
 
 -- a snapshot that was found, or none

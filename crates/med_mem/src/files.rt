@@ -107,12 +107,9 @@ fn copy_file(alloc: Global, files: &[AddedFile], name: &str) -> Result<Option<Ve
 }
 
 impl Files for MemFiles {
-    ghost use Rattle.std.specs.Prelude.{Some};
-    ghost use Rattle.med_mem.specs.Named.{file_at};
+    ghost use Rattle.med_mem.specs.Named.{files_state};
 
-    ghost held = { λ m name. Some (file_at name m) };
-
-    ghost faults = { λ m. m.faults };
+    ghost state = { files_state };
 
     fn read(&mut self, alloc: Global, name: &str) -> Result<Option<Vec<u8>>, Denied>
         ensures ok { IfOk result (λ file. (is_failing self.old ≡ false)

@@ -1,12 +1,12 @@
 // Nodes in memory, with the snapshots that were added to them.
 ghost use Rattle.std.specs.Prelude.{◌≡◌, [], Some, None, IfOk, IfErr, OnOk, OnErr, ◌≤◌, ◌+◌, ◌-◌, ◌^◌, min};
 ghost use Rattle.med_outside.specs.declared.denied.Denied.TheVariants.{Memory};
-ghost use Rattle.med_outside.specs.Counts.{after_open, with_closed};
+ghost use Rattle.med_outside.specs.Counts.{after_open, tagged, with_closed};
 ghost use Rattle.med_mem.specs.Snaps.{snapshot_of, snapshot_at, held_by, HasAdded, Keeps, KeepsOthers, is_for, first_for, given, given_as, given_for, shown};
 
 use crate::snapshot::{MemOpened, MemSnap};
 use med_base::{Fqdn, NoMemory};
-use med_outside::{Denied, Nodes};
+use med_outside::{Denied, Nodes, OpenedFor};
 use std::alloc::Global;
 use std::marker::Model;
 
@@ -26,6 +26,7 @@ pub struct MemNodes {
     faults: u64,
     opened: u64,
     closed: u64,
+    last: OpenedFor,
 }
 
 impl Model for MemNodes {
@@ -33,7 +34,7 @@ impl Model for MemNodes {
 
     ghost Value = { Known };
 
-    ghost view = { λ m. known_by m.snaps.items m.faults m.opened m.closed };
+    ghost view = { λ m. known_by m.snaps.items m.faults m.opened m.closed m.last };
 }
 
 impl MemNodes {
@@ -42,7 +43,7 @@ impl MemNodes {
         ensures { result ≡ record {
           given = [];
           faults = 0;
-          counts = record { opened = 0; closed = 0 };
+          counts = record { opened = 0; closed = 0; last = tagged [] [] [] };
         } }
     {
         MemNodes {
@@ -50,6 +51,7 @@ impl MemNodes {
             faults: 0,
             opened: 0,
             closed: 0,
+            last: OpenedFor::nothing(alloc),
         }
     }
 
@@ -116,16 +118,11 @@ fn find_added<'a>(snaps: &'a [Added], root: &str, node: &str, tag: &str) -> Opti
 }
 
 impl Nodes for MemNodes {
-    ghost use Rattle.std.specs.Prelude.{Some};
-    ghost use Rattle.med_mem.specs.Snaps.{snapshot_at};
+    ghost use Rattle.med_mem.specs.Snaps.{nodes_state};
 
     type Snap = MemOpened;
 
-    ghost snaps = { λ m root node tag. Some (snapshot_at m root node tag) };
-
-    ghost faults = { λ m. m.faults };
-
-    ghost counts = { λ m. m.counts };
+    ghost state = { nodes_state };
 
     fn open(
         &mut self,
@@ -139,14 +136,17 @@ impl Nodes for MemNodes {
         ensures fresh { IfOk result (λ snap. snap.faults ≡ 0) }
         ensures same { self.new.given ≡ self.old.given }
         ensures faults { self.new.faults ≡ self.old.faults }
-        ensures counts { self.new.counts ≡ after_open result self.old.counts }
+        ensures counts { self.new.counts
+            ≡ after_open result (tagged root.now node.now tag.now) self.old.counts }
         ensures err { IfErr result (λ e. e ≡ Denied.Memory) }
     {
+        let opened = OpenedFor::of(alloc, root, node.as_str(), tag)?;
         let snap = match find_added(self.snaps.as_slice(), root, node.as_str(), tag) {
             Some(snap) => MemOpened::of(alloc, snap)?,
             None => MemOpened::empty(alloc),
         };
         self.opened = self.opened.saturating_add(1);
+        self.last = opened;
         Ok(snap)
     }
 

@@ -1,7 +1,9 @@
 pub mod Causes
 pub mod Counts
 pub mod Effects
+pub mod Ends
 pub mod Sink
 pub mod Snapshot
 pub mod State
 pub mod Storage
+pub mod World

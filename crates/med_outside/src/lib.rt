@@ -10,6 +10,7 @@ mod denied;
 mod files;
 mod mode;
 mod nodes;
+mod opened;
 mod sink;
 mod storage;
 
@@ -17,5 +18,6 @@ pub use denied::Denied;
 pub use files::Files;
 pub use mode::Mode;
 pub use nodes::{Nodes, RawKey, Snap};
+pub use opened::OpenedFor;
 pub use sink::{Sink, SinkFailed};
 pub use storage::{Entry, Stat, Storage};

@@ -1,9 +1,10 @@
 // The nodes, and the snapshots that they open.
-ghost use Rattle.std.specs.Prelude.{◌≡◌, ◌≤◌, ◌+◌, ◌-◌, ◌^◌, ℕ, List, Option, Some, IfOk, IfSome, map, min};
+ghost use Rattle.std.specs.Prelude.{◌≡◌, ◌≤◌, ◌+◌, ◌-◌, ◌^◌, ℕ, Option, Some, IfOk, IfSome, map, min};
 ghost use Rattle.std.specs.FinMap as finite;
 ghost use Rattle.med_outside.specs.Causes.{HasCause};
-ghost use Rattle.med_outside.specs.Counts.{SnapshotCounts, after_open, with_closed};
+ghost use Rattle.med_outside.specs.Counts.{after_open, tagged, with_closed};
 ghost use Rattle.med_outside.specs.Snapshot.{Snapshot, raw_name, HasKey, IsListed};
+ghost use Rattle.med_outside.specs.World.{NodesState};
 
 use crate::Denied;
 use med_base::{FileKey, Fqdn};
@@ -55,14 +56,9 @@ pub trait Snap: Drop {
 pub trait Nodes {
     type Snap: Snap;
 
-    /// The snapshot of a node with a tag under a root, where it tells.
-    ghost snaps: { Self → List ℕ → List ℕ → List ℕ → Option Snapshot };
-
-    /// How often a call failed, of the snapshots that were closed too.
-    ghost faults: { Self → ℕ };
-
-    /// How many snapshots were opened, and how many of them were closed.
-    ghost counts: { Self → SnapshotCounts };
+    /// The snapshots, where it tells; how often a call failed, of the snapshots that were closed
+    /// too; and which snapshots were opened and closed.
+    ghost state: { Self → NodesState };
 
     /// The snapshot of the node with the tag. It has no keys where there is none. It changes
     /// nothing, and the snapshot's own count of faults begins at 0.
@@ -74,18 +70,20 @@ pub trait Nodes {
         tag: &str,
     ) -> Result<Self::Snap, Denied>
         ensures held { IfOk result
-            (λ snap. Self.Snap.held snap ≡ snaps self.old root.now node.now tag.now) }
+            (λ snap. Self.Snap.held snap ≡ (state self.old).snaps root.now node.now tag.now) }
         ensures fresh { IfOk result (λ snap. Self.Snap.faults snap ≡ 0) }
-        ensures same { snaps self.new ≡ snaps self.old }
-        ensures counts { counts self.new ≡ after_open result (counts self.old) }
-        ensures cause { HasCause (faults self.old) (faults self.new) result };
+        ensures same { (state self.new).snaps ≡ (state self.old).snaps }
+        ensures counts { (state self.new).counts
+            ≡ after_open result (tagged root.now node.now tag.now) (state self.old).counts }
+        ensures cause { HasCause (state self.old).faults (state self.new).faults result };
 
     /// Gives a snapshot up. Its faults count with those of the nodes from now on. It takes no
     /// memory and is never refused.
     fn close(&mut self, snap: Self::Snap)
-        ensures same { snaps self.new ≡ snaps self.old }
-        ensures counts { counts self.new ≡ with_closed (counts self.old) }
-        ensures later { faults self.old ≤ faults self.new }
-        ensures faults { faults self.new ≡ min (faults self.old + Self.Snap.faults snap)
+        ensures same { (state self.new).snaps ≡ (state self.old).snaps }
+        ensures counts { (state self.new).counts ≡ with_closed (state self.old).counts }
+        ensures later { (state self.old).faults ≤ (state self.new).faults }
+        ensures faults { (state self.new).faults
+            ≡ min ((state self.old).faults + Self.Snap.faults snap)
             (2 ^ 64 - 1) };
 }

@@ -1,7 +1,8 @@
 // Public calls by themselves, and want of memory.
 use crate::said::{BACKUP, INI, LINE, NODES, OBJECTS, Said, config, nodes, objects, say, words};
+use med_backup::walk;
 use med_base::{Fqdn, NoMemory};
-use med_commands::{run_command, tell_no_memory, walk};
+use med_commands::{run_command, tell_no_memory};
 use med_mem::{MemSink, MemStore};
 use med_outside::Nodes;
 use med_words::read_words;

@@ -60,6 +60,21 @@ pub(crate) fn words(alloc: Global, texts: &[&str]) -> Result<Vec<String>, NoMemo
 }
 
 // Runs a command over files, and over sinks of which `out` takes so many bytes.
+pub(crate) fn run_words<F: Files, S: Storage, N: Nodes>(
+    alloc: Global,
+    words: &[String],
+    files: &mut F,
+    store: &mut S,
+    nodes: &mut N,
+    limit: usize,
+) -> Result<Said, NoMemory> {
+    let mut out = MemSink::new(alloc, limit)?;
+    let mut err = MemSink::new(alloc, 1000)?;
+    let status = medusa_main(alloc, words, files, store, nodes, &mut out, &mut err);
+    Ok(Said { status, out, err })
+}
+
+// The same of words that are lent.
 pub(crate) fn say_over<F: Files, S: Storage, N: Nodes>(
     alloc: Global,
     texts: &[&str],
@@ -69,11 +84,7 @@ pub(crate) fn say_over<F: Files, S: Storage, N: Nodes>(
     limit: usize,
 ) -> Result<Said, NoMemory> {
     let words = words(alloc, texts)?;
-    let words = words.as_slice();
-    let mut out = MemSink::new(alloc, limit)?;
-    let mut err = MemSink::new(alloc, 1000)?;
-    let status = medusa_main(alloc, words, files, store, nodes, &mut out, &mut err);
-    Ok(Said { status, out, err })
+    run_words(alloc, words.as_slice(), files, store, nodes, limit)
 }
 
 // The one file `m.ini` with this text.

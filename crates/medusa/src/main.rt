@@ -34,7 +34,7 @@ fn main(rt: HostRuntime) -> ExitCode {
     };
     let mut files = RealFiles::new(rt);
     let mut store = FolderStore::new(alloc, rt);
-    let mut nodes = FolderNodes::new(rt);
+    let mut nodes = FolderNodes::new(alloc, rt);
     let status = medusa_main(
         alloc,
         words.as_slice(),

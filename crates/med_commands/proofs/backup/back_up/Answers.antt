@@ -1,206 +1,98 @@
-use Rattle.std.proofs.Common.{refl}
+use Rattle.std.proofs.Common.{Ok, Err, inl, inr, refl, Vec, Global}
+use Rattle.med_manifest.specs.declared.manifest.FileRecord.{FileRecord}
+use Rattle.med_outside.specs.Ends.{Failed, Memory, seen, said_as}
+use Rattle.med_outside.specs.World.{world, rose_of, rose_of_node}
+use Rattle.med_outside.proofs.EndsLemmas.{carried_as, goes_on, stops_all}
+use Rattle.med_outside.proofs.Passing.{moves_at_rest}
 use Rattle.med_words.specs.Views.{asked_of}
-use Rattle.med_commands.specs.Ends.{IsUnprinted, IsEndOf}
-use Rattle.med_commands.specs.Fault.{fault_for}
-use Rattle.med_commands.specs.Headline.{Asks, IsBackedUp}
-use Rattle.med_commands.specs.Printed.{Wrote}
+use Rattle.med_backup.specs.Plan.{Left, LeavesNode, node_plan, stop_of as stop_of_error}
+use Rattle.med_backup.specs.Site.{site_of}
+use Rattle.med_commands.specs.Fault.{stop_of, fault_of_load}
+use Rattle.med_commands.specs.Headline.{says}
+use Rattle.med_commands.specs.Plans.{IsSilent, IsDone, prints}
 use Rattle.med_commands.specs.Report.{report_line}
-use Rattle.med_commands.specs.Site.{site_of, snap_at}
-use Rattle.med_commands.proofs.Composed.{done_with, err_with}
-use Rattle.med_commands.proofs.Ended.{done_of, made_moments, left_moments, fault_of_refusal, printed_end, unprinted_end}
+use Rattle.med_commands.proofs.BackupSteps.{done_of, load_stop, stop_for, up_node, printed, asked_plan}
 use Rattle.med_commands.proofs.backup.back_up.Goals as goal
 
-pub returns-in-Ok-backup_node-clause-ok : goal.returns-in-Ok-backup_node-clause-ok
-returns-in-Ok-backup_node-clause-ok g c =
-    let site = site_of c.in-Ok-load.config in
-    let asks : Asks (g.F.Files.held c.args.files.now) (asked_of c.args.request.now) site
-    c.args.name.now = record {
-      action = c.requires;
-      config = c.in-Ok-load.config;
-      configured = c.in-Ok-load.ensures.ok;
-      site_is = refl;
-    } in
-    let done = done_of site c.args.name.now
-    (snap_at (g.N.Nodes.snaps c.args.nodes.now) site c.args.name.now)
-    (g.S.Storage.state c.args.store.now) (g.S.Storage.state c.backup_node.new.store)
-    (g.S.Storage.stood_since c.args.store.now)
-    (g.S.Storage.stood_since c.backup_node.new.store)
-    c.in-Ok-backup_node.records.items c.in-Ok-backup_node.ensures.ok in
-    done_with c.print_line.result
-    (Wrote (report_line c.args.name.now site.node c.in-Ok-backup_node.records.items)
-    (g.O.Sink.taken c.args.out.now) (g.O.Sink.taken c.print_line.new.out))
-    (IsBackedUp (asked_of c.args.request.now) (record {
-      files = g.F.Files.held c.args.files.now;
-      snaps = g.N.Nodes.snaps c.args.nodes.now;
-      old = g.S.Storage.state c.args.store.now;
-      new = g.S.Storage.state c.backup_node.new.store;
-      files_before = g.F.Files.faults c.args.files.now;
-      files_now = g.F.Files.faults c.load.new.files;
-      nodes_before = g.N.Nodes.faults c.args.nodes.now;
-      nodes_now = g.N.Nodes.faults c.backup_node.new.nodes;
-    })
-    (λ line. Wrote line (g.O.Sink.taken c.args.out.now) (g.O.Sink.taken c.print_line.new.out)))
-    (λ wrote. record {
-      site = site;
-      name = c.args.name.now;
-      files = c.in-Ok-backup_node.records.items;
-      asks = asks;
-      done = done;
-      line = wrote;
-    })
-    (rw c.as_slice.ensures.value at c.print_line.ensures.ok)
+pub returns-in-Err-clause-ends : goal.returns-in-Err-clause-ends
+returns-in-Err-clause-ends g c =
+    let a = (world (g.F.Files.state c.args.files.now) (g.N.Nodes.state c.args.nodes.now)
+    (g.S.Storage.state c.args.store.now) (g.S.Storage.stood_since c.args.store.now)
+    (g.O.Sink.state c.args.out.now)) in
+    asked_plan (asked_of c.args.request.now) c.args.name.now a a (Err (Failed Memory)) c.requires
+    (inl ((inr (inl refl), tt), (moves_at_rest a.store a.stood, refl, refl)))
 
-pub returns-in-Ok-backup_node-clause-err : goal.returns-in-Ok-backup_node-clause-err
-returns-in-Ok-backup_node-clause-err g c =
-    let site = site_of c.in-Ok-load.config in
-    let asks : Asks (g.F.Files.held c.args.files.now) (asked_of c.args.request.now) site
-    c.args.name.now = record {
-      action = c.requires;
-      config = c.in-Ok-load.config;
-      configured = c.in-Ok-load.ensures.ok;
-      site_is = refl;
-    } in
-    let done = done_of site c.args.name.now
-    (snap_at (g.N.Nodes.snaps c.args.nodes.now) site c.args.name.now)
-    (g.S.Storage.state c.args.store.now) (g.S.Storage.state c.backup_node.new.store)
-    (g.S.Storage.stood_since c.args.store.now)
-    (g.S.Storage.stood_since c.backup_node.new.store)
-    c.in-Ok-backup_node.records.items c.in-Ok-backup_node.ensures.ok in
-    err_with c.print_line.result
-    (IsUnprinted (report_line c.args.name.now site.node c.in-Ok-backup_node.records.items) (record {
-      old = g.O.Sink.taken c.args.out.now;
-      new = g.O.Sink.taken c.print_line.new.out;
-      faults_before = g.O.Sink.faults c.args.out.now;
-      faults_now = g.O.Sink.faults c.print_line.new.out;
-    }))
-    (IsEndOf (asked_of c.args.request.now) (record {
-      files = g.F.Files.held c.args.files.now;
-      snaps = g.N.Nodes.snaps c.args.nodes.now;
-      old = g.S.Storage.state c.args.store.now;
-      new = g.S.Storage.state c.backup_node.new.store;
-      files_before = g.F.Files.faults c.args.files.now;
-      files_now = g.F.Files.faults c.load.new.files;
-      nodes_before = g.N.Nodes.faults c.args.nodes.now;
-      nodes_now = g.N.Nodes.faults c.backup_node.new.nodes;
-    })
-    (g.S.Storage.stood_since c.args.store.now)
-    (g.S.Storage.stood_since c.backup_node.new.store) (record {
-      old = g.O.Sink.taken c.args.out.now;
-      new = g.O.Sink.taken c.print_line.new.out;
-      faults_before = g.O.Sink.faults c.args.out.now;
-      faults_now = g.O.Sink.faults c.print_line.new.out;
-    }))
-    (λ fault why. printed_end (asked_of c.args.request.now) (record {
-      files = g.F.Files.held c.args.files.now;
-      snaps = g.N.Nodes.snaps c.args.nodes.now;
-      old = g.S.Storage.state c.args.store.now;
-      new = g.S.Storage.state c.backup_node.new.store;
-      files_before = g.F.Files.faults c.args.files.now;
-      files_now = g.F.Files.faults c.load.new.files;
-      nodes_before = g.N.Nodes.faults c.args.nodes.now;
-      nodes_now = g.N.Nodes.faults c.backup_node.new.nodes;
-    })
-    (g.S.Storage.stood_since c.args.store.now)
-    (g.S.Storage.stood_since c.backup_node.new.store) site c.args.name.now
-    c.in-Ok-backup_node.records.items
-    (record {
-      old = g.O.Sink.taken c.args.out.now;
-      new = g.O.Sink.taken c.print_line.new.out;
-      faults_before = g.O.Sink.faults c.args.out.now;
-      faults_now = g.O.Sink.faults c.print_line.new.out;
-    }) fault asks done why)
-    (rw c.as_slice.ensures.value at c.print_line.ensures.err)
+pub returns-in-Err-load-clause-ends : goal.returns-in-Err-load-clause-ends
+returns-in-Err-load-clause-ends g c =
+    let a = (world (g.F.Files.state c.args.files.now) (g.N.Nodes.state c.args.nodes.now)
+    (g.S.Storage.state c.args.store.now) (g.S.Storage.stood_since c.args.store.now)
+    (g.O.Sink.state c.args.out.now)) in
+    let b = (world (g.F.Files.state c.load.new.files) (g.N.Nodes.state c.args.nodes.now)
+    (g.S.Storage.state c.args.store.now) (g.S.Storage.stood_since c.args.store.now)
+    (g.O.Sink.state c.args.out.now)) in
+    rw c.fault_without_config.ensures
+    (asked_plan (asked_of c.args.request.now) c.args.name.now a b
+    (Err (stop_of (fault_of_load c.in-Err-load.error))) c.requires
+    (inl (
+      load_stop a.files.contents (asked_of c.args.request.now) (rose_of a b) a.files.faults
+          b.files.faults (λ h. h) tt c.in-Err-load.error c.in-Err-load.ensures.err,
+      (moves_at_rest a.store a.stood, refl, refl),
+    )))
 
-pub returns-in-Ok-backup_node-clause-moments : goal.returns-in-Ok-backup_node-clause-moments
-returns-in-Ok-backup_node-clause-moments g c =
+pub returns-in-Err-backup_node-clause-ends : goal.returns-in-Err-backup_node-clause-ends
+returns-in-Err-backup_node-clause-ends g c =
+    let a = (world (g.F.Files.state c.args.files.now) (g.N.Nodes.state c.args.nodes.now)
+    (g.S.Storage.state c.args.store.now) (g.S.Storage.stood_since c.args.store.now)
+    (g.O.Sink.state c.args.out.now)) in
+    let b = (world (g.F.Files.state c.load.new.files) (g.N.Nodes.state c.backup_node.new.nodes)
+    (g.S.Storage.state c.backup_node.new.store) (g.S.Storage.stood_since c.backup_node.new.store)
+    (g.O.Sink.state c.args.out.now)) in
     let site = site_of c.in-Ok-load.config in
-    let asks : Asks (g.F.Files.held c.args.files.now) (asked_of c.args.request.now) site
-    c.args.name.now = record {
-      action = c.requires;
-      config = c.in-Ok-load.config;
-      configured = c.in-Ok-load.ensures.ok;
-      site_is = refl;
-    } in
-    made_moments (asked_of c.args.request.now) (record {
-      files = g.F.Files.held c.args.files.now;
-      snaps = g.N.Nodes.snaps c.args.nodes.now;
-      old = g.S.Storage.state c.args.store.now;
-      new = g.S.Storage.state c.backup_node.new.store;
-      files_before = g.F.Files.faults c.args.files.now;
-      files_now = g.F.Files.faults c.load.new.files;
-      nodes_before = g.N.Nodes.faults c.args.nodes.now;
-      nodes_now = g.N.Nodes.faults c.backup_node.new.nodes;
-    })
-    (g.S.Storage.stood_since c.args.store.now)
-    (g.S.Storage.stood_since c.backup_node.new.store) site c.args.name.now
-    c.in-Ok-backup_node.records.items asks
-    c.in-Ok-backup_node.ensures.ok
+    let low = rose_of_node a.nodes.faults b.nodes.faults a.store.faults b.store.faults in
+    let means = LeavesNode site c.args.name.now a.nodes b.nodes a.store b.store a.stood b.stood in
+    let plan = node_plan site c.args.name.now a.nodes.snaps a.store.content in
+    let word : Left → Type 0 = λ (left : Left). means left × IsSilent a b in
+    let stop = stop_of_error c.args.name.now c.in-Err-backup_node.error in
+    rw (c.fault_of.ensures, c.in-Ok.ensures, stop_for c.args.name.now c.in-Err-backup_node.error)
+    (asked_plan (asked_of c.args.request.now) c.args.name.now a b (Err stop) c.requires
+    (inr (
+      site,
+      (c.in-Ok-load.config, c.in-Ok-load.ensures.ok, refl),
+      stops_all (rose_of a b) says
+          (λ files. prints (report_line c.args.name.now site.node files)
+          (IsDone site c.args.name.now a b files) a b) stop (said_as word plan)
+          (carried_as low (rose_of a b) (up_node a b) means says word (λ v h. (h, refl)) plan
+          (Err stop) c.in-Err-backup_node.ensures.ends),
+    )))
 
-pub returns-in-Err-backup_node-clause-err : goal.returns-in-Err-backup_node-clause-err
-returns-in-Err-backup_node-clause-err g c =
+pub returns-in-Ok-backup_node-clause-ends : goal.returns-in-Ok-backup_node-clause-ends
+returns-in-Ok-backup_node-clause-ends g c =
+    let a = (world (g.F.Files.state c.args.files.now) (g.N.Nodes.state c.args.nodes.now)
+    (g.S.Storage.state c.args.store.now) (g.S.Storage.stood_since c.args.store.now)
+    (g.O.Sink.state c.args.out.now)) in
+    let b = (world (g.F.Files.state c.load.new.files) (g.N.Nodes.state c.backup_node.new.nodes)
+    (g.S.Storage.state c.backup_node.new.store) (g.S.Storage.stood_since c.backup_node.new.store)
+    (g.O.Sink.state c.print_line.new.out)) in
     let site = site_of c.in-Ok-load.config in
-    let asks : Asks (g.F.Files.held c.args.files.now) (asked_of c.args.request.now) site
-    c.args.name.now = record {
-      action = c.requires;
-      config = c.in-Ok-load.config;
-      configured = c.in-Ok-load.ensures.ok;
-      site_is = refl;
-    } in
-    let why = fault_of_refusal (asked_of c.args.request.now) (record {
-      files = g.F.Files.held c.args.files.now;
-      snaps = g.N.Nodes.snaps c.args.nodes.now;
-      old = g.S.Storage.state c.args.store.now;
-      new = g.S.Storage.state c.backup_node.new.store;
-      files_before = g.F.Files.faults c.args.files.now;
-      files_now = g.F.Files.faults c.load.new.files;
-      nodes_before = g.N.Nodes.faults c.args.nodes.now;
-      nodes_now = g.N.Nodes.faults c.backup_node.new.nodes;
-    })
-    (g.S.Storage.stood_since c.args.store.now)
-    (g.S.Storage.stood_since c.backup_node.new.store) site c.args.name.now
-    c.in-Err-backup_node.refusal asks
-    c.in-Err-backup_node.ensures.err c.in-Err-backup_node.ensures.leaves
-    c.in-Err-backup_node.ensures.cause in
-    rw (c.fault_of.ensures, c.in-Ok.ensures) (unprinted_end (asked_of c.args.request.now) (record {
-      files = g.F.Files.held c.args.files.now;
-      snaps = g.N.Nodes.snaps c.args.nodes.now;
-      old = g.S.Storage.state c.args.store.now;
-      new = g.S.Storage.state c.backup_node.new.store;
-      files_before = g.F.Files.faults c.args.files.now;
-      files_now = g.F.Files.faults c.load.new.files;
-      nodes_before = g.N.Nodes.faults c.args.nodes.now;
-      nodes_now = g.N.Nodes.faults c.backup_node.new.nodes;
-    })
-    (g.S.Storage.stood_since c.args.store.now)
-    (g.S.Storage.stood_since c.backup_node.new.store) (record {
-      old = g.O.Sink.taken c.args.out.now;
-      new = g.O.Sink.taken c.args.out.now;
-      faults_before = g.O.Sink.faults c.args.out.now;
-      faults_now = g.O.Sink.faults c.args.out.now;
-    })
-    (fault_for c.args.name.now c.in-Err-backup_node.refusal) refl why)
-
-pub returns-in-Err-backup_node-clause-moments : goal.returns-in-Err-backup_node-clause-moments
-returns-in-Err-backup_node-clause-moments g c =
-    let site = site_of c.in-Ok-load.config in
-    let asks : Asks (g.F.Files.held c.args.files.now) (asked_of c.args.request.now) site
-    c.args.name.now = record {
-      action = c.requires;
-      config = c.in-Ok-load.config;
-      configured = c.in-Ok-load.ensures.ok;
-      site_is = refl;
-    } in
-    left_moments (asked_of c.args.request.now) (record {
-      files = g.F.Files.held c.args.files.now;
-      snaps = g.N.Nodes.snaps c.args.nodes.now;
-      old = g.S.Storage.state c.args.store.now;
-      new = g.S.Storage.state c.backup_node.new.store;
-      files_before = g.F.Files.faults c.args.files.now;
-      files_now = g.F.Files.faults c.load.new.files;
-      nodes_before = g.N.Nodes.faults c.args.nodes.now;
-      nodes_now = g.N.Nodes.faults c.backup_node.new.nodes;
-    })
-    (g.S.Storage.stood_since c.args.store.now)
-    (g.S.Storage.stood_since c.backup_node.new.store) site c.args.name.now
-    c.in-Err-backup_node.refusal asks
-    c.in-Err-backup_node.ensures.leaves
+    let files = c.in-Ok-backup_node.records.items in
+    let end = seen (λ (x : Unit {0}). x) stop_of c.print_line.result in
+    let low = rose_of_node a.nodes.faults b.nodes.faults a.store.faults b.store.faults in
+    let means = LeavesNode site c.args.name.now a.nodes b.nodes a.store b.store a.stood b.stood in
+    let plan = node_plan site c.args.name.now a.nodes.snaps a.store.content in
+    let word : Left → Type 0 = λ (left : Left). means left × IsSilent a b in
+    asked_plan (asked_of c.args.request.now) c.args.name.now a b end c.requires
+    (inr (
+      site,
+      (c.in-Ok-load.config, c.in-Ok-load.ensures.ok, refl),
+      goes_on (rose_of a b) says
+          (λ files. prints (report_line c.args.name.now site.node files)
+          (IsDone site c.args.name.now a b files) a b) (rose_of a b) (λ w. Unit {0}) files end
+          (said_as word plan)
+          (carried_as low (rose_of a b) (up_node a b) means (λ w. Unit {0}) word (λ v h. tt) plan
+          (Ok files) c.in-Ok-backup_node.ensures.ends)
+          (printed a b (report_line c.args.name.now site.node files)
+          (IsDone site c.args.name.now a b files) c.print_line.result c.print_line.ensures.step
+          (done_of site c.args.name.now a b files c.in-Ok-backup_node.ensures.ok)
+          (rw c.as_slice.ensures.value at c.print_line.ensures.ok)
+          (rw c.as_slice.ensures.value at c.print_line.ensures.err)),
+    ))

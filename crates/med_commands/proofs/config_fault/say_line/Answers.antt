@@ -16,6 +16,6 @@ returns-clause-text g c =
       c.text.ensures,
       c.as_slice-3.ensures,
     ) at c.write_pieces.ensures.text in
-    subst (λ (t : List ℕ). Prints t (g.E.Sink.taken c.args.err.now)
-    (g.E.Sink.taken c.write_pieces.new.out) c.write_pieces.result)
+    subst (λ (t : List ℕ). Prints t (g.E.Sink.state c.args.err.now).taken
+    (g.E.Sink.state c.write_pieces.new.out).taken c.write_pieces.result)
     (line_said (decimal c.args.line) (kind_text c.args.kind)) said

@@ -12,6 +12,6 @@ returns-clause-text g c =
       c.as_bytes-2.ensures.value,
       c.as_slice-3.ensures,
     ) at c.write_pieces.ensures.text in
-    subst (λ (t : List ℕ). Prints t (g.E.Sink.taken c.args.err.now)
-    (g.E.Sink.taken c.write_pieces.new.out) c.write_pieces.result)
+    subst (λ (t : List ℕ). Prints t (g.E.Sink.state c.args.err.now).taken
+    (g.E.Sink.state c.write_pieces.new.out).taken c.write_pieces.result)
     (taken_said c.args.name.now c.args.path.now) said

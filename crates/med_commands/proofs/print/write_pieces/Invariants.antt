@@ -8,6 +8,6 @@ use Rattle.med_commands.proofs.print.write_pieces.Given as goal
 abbrev pub invariant-loop-piece : goal.invariant-loop-piece
 invariant-loop-piece g l = record {
   told : Wrote (concat (map (λ (x : Bor (List ℕ)). x.now) (take l.piece-index l.pieces)))
-      (g.O.Sink.taken l.fn.out) (g.O.Sink.taken l.out);
-  later : g.O.Sink.faults l.fn.out ≤ g.O.Sink.faults l.out;
+      (g.O.Sink.state l.fn.out).taken (g.O.Sink.state l.out).taken;
+  later : (g.O.Sink.state l.fn.out).faults ≤ (g.O.Sink.state l.out).faults;
 }

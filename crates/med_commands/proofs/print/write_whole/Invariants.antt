@@ -5,8 +5,8 @@ use Rattle.med_commands.proofs.print.write_whole.Given as goal
 abbrev pub invariant-loop-done : goal.invariant-loop-done
 invariant-loop-done g l = record {
   bound : l.done ≤ length l.bytes;
-  told : Wrote (take l.done l.bytes) (g.O.Sink.taken l.fn.out) (g.O.Sink.taken l.out);
-  later : g.O.Sink.faults l.fn.out ≤ g.O.Sink.faults l.out;
+  told : Wrote (take l.done l.bytes) (g.O.Sink.state l.fn.out).taken (g.O.Sink.state l.out).taken;
+  later : (g.O.Sink.state l.fn.out).faults ≤ (g.O.Sink.state l.out).faults;
 }
 
 abbrev pub decreases-loop-done : goal.decreases-loop-done

@@ -1,0 +1,10 @@
+pub mod Apart
+pub mod Copied
+pub mod CopySteps
+pub mod Finished
+pub mod KeyLists
+pub mod Lists
+pub mod LookSteps
+pub mod NodeSteps
+pub mod Placed
+pub mod Stands

@@ -1,0 +1,90 @@
+-- How the work on a node ends, out of its parts.
+use Rattle.std.proofs.Common.{◌≡◌, ◌≤◌, ◌+◌, ◌-◌, ◌^◌, min, ℕ, List, [], Option, refl, ◌∙◌, subst, arith, Result, Ok, Err, IfOk}
+use Rattle.med_base.specs.declared.key.FileKey.{FileKey}
+use Rattle.med_base.specs.Content.{Content}
+use Rattle.med_manifest.specs.declared.manifest.FileRecord.{FileRecord}
+use Rattle.med_outside.specs.Ends.{Device, Files, Nodes, Storage, Output, Memory}
+use Rattle.med_outside.specs.Snapshot.{Snapshot}
+use Rattle.med_outside.specs.State.{State, Passes, Moves}
+use Rattle.med_outside.specs.World.{NodesState, rose_of_node}
+use Rattle.med_outside.proofs.Passing.{moves_on, after_all-nothing}
+use Rattle.med_backup.specs.Answers.{IsFound, IsCopied, IsMade}
+use Rattle.med_backup.specs.Copies.{backup_puts}
+use Rattle.med_backup.specs.Plan.{Changes, IsMadeBy, Left, Unopened, Opened, Worked, LeavesOpen, LeavesNode}
+use Rattle.med_backup.specs.Site.{Site, opened_at}
+
+pub ok_with : {T E : Type 0} (r : Result T E) (P Q : T → Type 0) → ((x : T) → P x → Q x) → IfOk r P
+    → IfOk r Q
+ok_with (Ok x) P Q f h = f x h
+ok_with (Err e) P Q f h = tt
+
+-- ---- counts
+
+-- a count that rose from later on rose
+pub later_rose : (rb rm rn sb sm sn : ℕ) → rb ≤ rm → sb ≤ sm → (d : Device)
+    → rose_of_node rm rn sm sn d → rose_of_node rb rn sb sn d
+later_rose rb rm rn sb sm sn r s Files h = h
+later_rose rb rm rn sb sm sn r s Nodes h = omega arith
+later_rose rb rm rn sb sm sn r s Storage h = omega arith
+later_rose rb rm rn sb sm sn r s Output h = h
+later_rose rb rm rn sb sm sn r s Memory h = h
+
+-- the faults of a snapshot that was closed count with those of the nodes
+pub closed_rose : (nb nm nn fresh snap sb sn : ℕ) → nb ≤ nm → fresh ≡ 0
+    → nn ≡ min (nm + snap) (2 ^ 64 - 1) → (d : Device)
+    → rose_of_node fresh snap sb sn d → rose_of_node nb nn sb sn d
+closed_rose nb nm nn fresh snap sb sn later zero_is sum Files h = h
+closed_rose nb nm nn fresh snap sb sn later zero_is sum Nodes h = omega arith
+closed_rose nb nm nn fresh snap sb sn later zero_is sum Storage h = h
+closed_rose nb nm nn fresh snap sb sn later zero_is sum Output h = h
+closed_rose nb nm nn fresh snap sb sn later zero_is sum Memory h = h
+
+-- ---- after calls that changed no content
+
+pub same_content : (s0 s1 : State) (p0 p1 : ℕ → Content → Type 0) → Passes [] s0 s1 p0 p1
+    → s1.content ≡ s0.content
+same_content s0 s1 p0 p1 a = a.content ∙ after_all-nothing s0.content
+
+pub made_later : (s0 s1 s2 : State) (p0 p1 p2 : ℕ → Content → Type 0) → Moves [] s0 s1 p0 p1
+    → (made : Changes) → IsMadeBy s1 s2 p1 p2 made → IsMadeBy s0 s2 p0 p2 made
+made_later s0 s1 s2 p0 p1 p2 first made (xs, is, moves) =
+    (xs, is, moves_on [] xs s0 s1 s2 p0 p1 p2 first moves)
+
+-- what is left over a bucket that was opened first
+pub left_later : (site : Site) (n : List ℕ) (nodes nodes_now : NodesState) (s0 s1 s2 : State)
+    (p0 p1 p2 : ℕ → Content → Type 0) → Moves [] (opened_at site s0) s1 p0 p1 → (left : Left)
+    → LeavesOpen site n nodes nodes_now s1 s2 p1 p2 left
+    → LeavesNode site n nodes nodes_now s0 s2 p0 p2 left
+left_later site n nodes nodes_now s0 s1 s2 p0 p1 p2 first Unopened h = absurd h
+left_later site n nodes nodes_now s0 s1 s2 p0 p1 p2 first Opened (moves, counts) =
+    (moves_on [] [] (opened_at site s0) s1 s2 p0 p1 p2 first moves, counts)
+left_later site n nodes nodes_now s0 s1 s2 p0 p1 p2 first (Worked made) (left, counts) =
+    (made_later (opened_at site s0) s1 s2 p0 p1 p2 first made left, counts)
+
+module _ (before f n : List ℕ) (held : Option Snapshot) where
+  pub copied_after : (order : List FileKey) (schema : List ℕ) (s0 s1 s2 : State)
+      (p0 p1 p2 : ℕ → Content → Type 0) (files : List FileRecord)
+      → Moves [] s0 s1 p0 p1 → IsCopied before f n held order schema s1 s2 p1 p2 files
+      → IsCopied before f n held order schema s0 s2 p0 p2 files
+  copied_after order schema s0 s1 s2 p0 p1 p2 files first c = record {
+    at = c.at;
+    copies = c.copies;
+    end = c.end;
+    keys_are = c.keys_are;
+    bytes_are = c.bytes_are;
+    files_are = c.files_are;
+    manifest_is = c.manifest_is;
+    moves = moves_on [] (backup_puts before f n schema c.at c.copies c.end) s0 s1 s2 p0 p1 p2
+        first c.moves;
+  }
+
+  pub made_after : (s0 s1 s2 : State) (p0 p1 p2 : ℕ → Content → Type 0) (files : List FileRecord)
+      → Moves [] s0 s1 p0 p1 → IsMade before f n held s1 s2 p1 p2 files
+      → IsMade before f n held s0 s2 p0 p2 files
+  made_after s0 s1 s2 p0 p1 p2 files first m = record {
+    order = m.order;
+    schema = m.schema;
+    found = subst (λ (c : Option Content). IsFound before f n held c m.order m.schema)
+        (same_content s0 s1 p0 p1 first.passes) m.found;
+    copied = copied_after m.order m.schema s0 s1 s2 p0 p1 p2 files first m.copied;
+  }

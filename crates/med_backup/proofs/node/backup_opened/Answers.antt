@@ -1,0 +1,57 @@
+use Rattle.std.proofs.Common.{◌≡◌, inr, ap, refl, ◌∙◌}
+use Rattle.med_outside.specs.Counts.{tagged, with_closed, opened_once}
+use Rattle.med_outside.specs.Ends.{seen}
+use Rattle.med_outside.specs.World.{rose_of_node}
+use Rattle.med_outside.proofs.EndsLemmas.{carried_as}
+use Rattle.med_backup.specs.Plan.{Changes, IsMadeBy, LeavesOpen, Worked, snapshot_plan, stop_of}
+use Rattle.med_backup.specs.Site.{site_of, snap_at, tag_of}
+use Rattle.med_backup.proofs.NodeSteps.{closed_rose}
+use Rattle.med_backup.proofs.node.backup_opened.Goals as goal
+
+pub returns-clause-ends : goal.returns-clause-ends
+returns-clause-ends g c =
+    let site = site_of c.args.config.now in
+    let tag : c.as_str-2.result.now ≡ tag_of c.args.name.now =
+    rw (c.as_str-2.ensures.value, c.in-Ok.ensures.ok, c.as_str.ensures.value) refl in
+    let counts : (g.N.Nodes.state c.close.new.self).counts ≡ opened_once
+    (tagged c.as_str-root.result.now c.args.config.now.node c.as_str-2.result.now)
+    (g.N.Nodes.state c.args.nodes.now).counts =
+    c.close.ensures.counts ∙ ap with_closed c.in-Ok-open.ensures.counts in
+    let made = IsMadeBy (g.S.Storage.state c.args.store.now)
+    (g.S.Storage.state c.backup_snapshot-answer.new.store)
+    (g.S.Storage.stood_since c.args.store.now)
+    (g.S.Storage.stood_since c.backup_snapshot-answer.new.store) in
+    inr (
+      tt,
+      tt,
+      carried_as
+          (rose_of_node (g.N.Snap.Snap.faults c.in-Ok-open.snap)
+          (g.N.Snap.Snap.faults c.backup_snapshot-answer.new.snap)
+          (g.S.Storage.state c.args.store.now).faults
+          (g.S.Storage.state c.backup_snapshot-answer.new.store).faults)
+          (rose_of_node (g.N.Nodes.state c.args.nodes.now).faults
+          (g.N.Nodes.state c.close.new.self).faults
+          (g.S.Storage.state c.args.store.now).faults
+          (g.S.Storage.state c.backup_snapshot-answer.new.store).faults)
+          (closed_rose (g.N.Nodes.state c.args.nodes.now).faults
+          (g.N.Nodes.state c.open.new.self).faults (g.N.Nodes.state c.close.new.self).faults
+          (g.N.Snap.Snap.faults c.in-Ok-open.snap)
+          (g.N.Snap.Snap.faults c.backup_snapshot-answer.new.snap)
+          (g.S.Storage.state c.args.store.now).faults
+          (g.S.Storage.state c.backup_snapshot-answer.new.store).faults
+          c.open.ensures.cause.later c.in-Ok-open.ensures.fresh c.close.ensures.faults)
+          made
+          (LeavesOpen site c.args.name.now (g.N.Nodes.state c.args.nodes.now)
+          (g.N.Nodes.state c.close.new.self) (g.S.Storage.state c.args.store.now)
+          (g.S.Storage.state c.backup_snapshot-answer.new.store)
+          (g.S.Storage.stood_since c.args.store.now)
+          (g.S.Storage.stood_since c.backup_snapshot-answer.new.store))
+          Worked
+          (λ (v : Changes) h. (h, rw (c.as_str-root.ensures.value, tag) at counts))
+          (snapshot_plan site.before site.node c.args.name.now
+          (snap_at (g.N.Nodes.state c.args.nodes.now).snaps site c.args.name.now)
+          (g.S.Storage.state c.args.store.now).content)
+          (seen (λ files. files.items) (stop_of c.args.name.now) c.backup_snapshot-answer.result)
+          (rw (c.in-Ok-open.ensures.held, c.as_str-root.ensures.value, tag)
+          at c.backup_snapshot-answer.ensures.ends),
+    )

@@ -1,0 +1,210 @@
+-- The work of a full backup of one node, in its order.
+use Rattle.std.specs.Prelude.{◌≡◌, ◌⊎◌, ℕ, List, [], ◌∷◌, ◌++◌, map, Option, Some, IfSome, Result, Ok, Err}
+use Rattle.std.specs.List.{AllByRecursion}
+use Rattle.std.specs.FinMap.{keys}
+use Rattle.med_base.specs.declared.key.FileKey.{FileKey}
+use Rattle.med_base.specs.declared.layout.MetaKind.TheVariants.{Schema}
+use Rattle.med_base.specs.Content.{Content}
+use Rattle.med_base.specs.Key.{AreRising, IsKey}
+use Rattle.med_base.specs.Layout.{backup_folder, meta_path}
+use Rattle.med_manifest.specs.declared.manifest.FileRecord.{FileRecord}
+use Rattle.med_outside.specs.Counts.{Tagged, tagged, opened_once}
+use Rattle.med_outside.specs.Effects.{Effect, Stores}
+use Rattle.med_outside.specs.Ends.{Device, Nodes, Storage, Memory, Refusal, Taken, NoSnapshot, BadFileName, Stop, Refused, Failed, Plan, last, step, then, said_as}
+use Rattle.med_outside.specs.Snapshot.{Snapshot}
+use Rattle.med_outside.specs.State.{State, Moves}
+use Rattle.med_outside.specs.World.{History, NodesState, Snapshots}
+use Rattle.med_backup.specs.Copies.{Copy, key_of, put_of, records_of, backup_puts, AreOf}
+use Rattle.med_backup.specs.Site.{Site, opened_at, snap_at, tag_of}
+use Rattle.med_backup.specs.Taken.{IsFree, IsFirstUnder}
+use Rattle.med_backup.specs.Walked.{CanBeWalked, IsFirstBad}
+use Rattle.med_backup.specs.declared.look.BackupError.{BackupError}
+use Rattle.med_backup.specs.declared.look.BackupError.TheVariants as error
+use Rattle.med_backup.specs.declared.look.Found.{Found}
+use Rattle.med_backup.specs.declared.place.CopyFault.{CopyFault}
+use Rattle.med_backup.specs.declared.place.CopyFault.TheVariants as fault
+
+-- ---- what the steps ask, and what they answer
+
+abbrev pub on_nodes : List Device
+on_nodes = Nodes ∷ Memory ∷ []
+
+abbrev pub on_storage : List Device
+on_storage = Storage ∷ Memory ∷ []
+
+abbrev pub on_both : List Device
+on_both = Nodes ∷ Storage ∷ Memory ∷ []
+
+-- nothing is refused
+abbrev pub Passed : {T : Type 0} → Result T Refusal → Type 0
+Passed (Ok x) = Unit {0}
+Passed (Err f) = ⊥
+
+-- the keys of the snapshot in order; or it has none, or the first that is no name of a file
+abbrev pub Walks : List ℕ → Option Snapshot → Result (List FileKey) Refusal → Type 0
+Walks n held (Ok order) =
+    AreRising order × AllByRecursion IsKey order × IfSome held CanBeWalked
+    × IfSome held (λ s. order ≡ keys s.files)
+Walks n held (Err (NoSnapshot name)) = (name ≡ n) × IfSome held (λ s. s.order ≡ [])
+Walks n held (Err (BadFileName at)) = IfSome held (λ s. IsFirstBad at s.order)
+Walks n held (Err f) = ⊥
+
+abbrev pub ReadsSchema : Option Snapshot → Result (List ℕ) Refusal → Type 0
+ReadsSchema held (Ok schema) = IfSome held (λ s. schema ≡ s.schema)
+ReadsSchema held (Err f) = ⊥
+
+-- the folder of the backup is free, or this is the first path under it
+abbrev pub FindsFree : (before f n : List ℕ) → Option Content → Result (Unit {0}) Refusal → Type 0
+FindsFree before f n told (Ok x) = IsFree before f n told
+FindsFree before f n told (Err (Taken name path)) =
+    (name ≡ n) × IsFirstUnder (backup_folder before f n) told (Some path)
+FindsFree before f n told (Err e) = ⊥
+
+-- these are copies of the files with these keys, and what is recorded of them
+pub record IsCopyOf (before f n : List ℕ) (held : Option Snapshot) (order : List FileKey)
+    (files : List FileRecord) (copies : List Copy) : Type 0 where
+  pub keys_are : map key_of copies ≡ order
+  pub bytes_are : AreOf held copies
+  pub files_are : files ≡ records_of before f n copies
+
+abbrev pub Copies : (before f n : List ℕ) → Option Snapshot → List FileKey
+    → Result (List FileRecord) Refusal → Type 0
+Copies before f n held order (Ok files) =
+    (copies : List Copy) × IsCopyOf before f n held order files copies
+Copies before f n held order (Err e) = ⊥
+
+-- ---- what the steps leave: the lists of changes of which one was made
+
+abbrev pub Changes : Type 1
+Changes = List Effect → Type 0
+
+-- no change
+abbrev pub IsNothing : Changes
+IsNothing xs = xs ≡ []
+
+-- the schema was put
+abbrev pub IsSchemaPut : (before f n schema : List ℕ) → Changes
+IsSchemaPut before f n schema xs =
+    (at : ℕ) × (xs ≡ Stores (meta_path before f n Schema) schema at ∷ [])
+
+-- the schema and the first of these files were put, each file of the snapshot under its own path
+pub record IsBegun (before f n schema : List ℕ) (held : Option Snapshot) (order : List FileKey)
+    (xs : List Effect) : Type 0 where
+  pub at : ℕ
+  pub copies : List Copy
+  pub rest : List FileKey
+  pub split : order ≡ map key_of copies ++ rest
+  pub bytes_are : AreOf held copies
+  pub xs_are : xs ≡ Stores (meta_path before f n Schema) schema at ∷ map (put_of before f n) copies
+
+-- the schema and all files were put
+pub record HasFiles (before f n schema : List ℕ) (held : Option Snapshot) (order : List FileKey)
+    (files : List FileRecord) (xs : List Effect) : Type 0 where
+  pub at : ℕ
+  pub copies : List Copy
+  pub copy : IsCopyOf before f n held order files copies
+  pub xs_are : xs ≡ Stores (meta_path before f n Schema) schema at ∷ map (put_of before f n) copies
+
+-- these and the manifest that records the files
+pub record HasAll (before f n schema : List ℕ) (held : Option Snapshot) (order : List FileKey)
+    (files : List FileRecord) (xs : List Effect) : Type 0 where
+  pub at : ℕ
+  pub copies : List Copy
+  pub end : ℕ
+  pub copy : IsCopyOf before f n held order files copies
+  pub xs_are : xs ≡ backup_puts before f n schema at copies end
+
+-- ---- the plans
+
+-- the look before anything is put: the keys, the schema, and whether the name is free
+abbrev pub look_plan : (before f n : List ℕ) → Option Snapshot → Option Content
+    → Plan Changes (List FileKey × List ℕ)
+look_plan before f n held told =
+    step (Walks n held) on_nodes IsNothing (λ order.
+    step (ReadsSchema held) on_nodes IsNothing (λ schema.
+    step (FindsFree before f n told) on_storage IsNothing (λ _.
+    last IsNothing (order, schema))))
+
+-- the puts: the schema, the files, and the manifest
+abbrev pub copy_plan : (before f n : List ℕ) → Option Snapshot → (order : List FileKey)
+    → (schema : List ℕ) → Plan Changes (List FileRecord)
+copy_plan before f n held order schema =
+    step {T = Unit {0}} Passed on_storage
+    (λ xs. IsNothing xs ⊎ IsSchemaPut before f n schema xs) (λ _.
+    step (Copies before f n held order) on_both (IsBegun before f n schema held order) (λ files.
+    step {T = Unit {0}} Passed on_storage
+    (λ xs. HasFiles before f n schema held order files xs
+    ⊎ HasAll before f n schema held order files xs) (λ _.
+    last (HasAll before f n schema held order files) files)))
+
+-- the work over an open bucket and an open snapshot
+abbrev pub snapshot_plan : (before f n : List ℕ) → Option Snapshot → Option Content
+    → Plan Changes (List FileRecord)
+snapshot_plan before f n held told =
+    then (look_plan before f n held told) (λ found. copy_plan before f n held found.0 found.1)
+
+-- what the work on a node leaves
+pub data Left : Type 1 where
+  -- the bucket isn't open yet, and nothing changed
+  Unopened : Left
+  -- the bucket is open, no snapshot was opened, and nothing changed
+  Opened : Left
+  -- the snapshot was opened and closed, and one of these lists of changes was made
+  Worked : Changes → Left
+
+-- the work on a node whose bucket is open
+abbrev pub opened_plan : Site → List ℕ → Snapshots → Option Content → Plan Left (List FileRecord)
+opened_plan site n snaps told =
+    step {T = Unit {0}} Passed on_nodes Opened (λ _. said_as Worked
+    (snapshot_plan site.before site.node n (snap_at snaps site n) told))
+
+abbrev pub node_plan : Site → List ℕ → Snapshots → Option Content → Plan Left (List FileRecord)
+node_plan site n snaps told =
+    step {T = Unit {0}} Passed on_storage Unopened (λ _. opened_plan site n snaps told)
+
+-- ---- what the words mean
+
+-- one of these lists of changes was made, and nothing else
+abbrev pub IsMadeBy : (old new : State) → (past since : History) → Changes → Type 0
+IsMadeBy old new past since made = (xs : List Effect) × made xs × Moves xs old new past since
+
+-- what is opened for the backup
+abbrev pub tagged_at : Site → List ℕ → Tagged
+tagged_at site n = tagged site.nodes_root site.node (tag_of n)
+
+-- over a bucket that is open
+abbrev pub LeavesOpen : Site → List ℕ → (nodes nodes_now : NodesState) → (old new : State)
+    → (past since : History) → Left → Type 0
+LeavesOpen site n nodes nodes_now old new past since Unopened = ⊥
+LeavesOpen site n nodes nodes_now old new past since Opened =
+    Moves [] old new past since × (nodes_now.counts ≡ nodes.counts)
+LeavesOpen site n nodes nodes_now old new past since (Worked made) =
+    IsMadeBy old new past since made
+    × (nodes_now.counts ≡ opened_once (tagged_at site n) nodes.counts)
+
+-- over a bucket that is opened in the first step
+abbrev pub LeavesNode : Site → List ℕ → (nodes nodes_now : NodesState) → (old new : State)
+    → (past since : History) → Left → Type 0
+LeavesNode site n nodes nodes_now old new past since Unopened =
+    Moves [] old new past since × (nodes_now.counts ≡ nodes.counts)
+LeavesNode site n nodes nodes_now old new past since Opened =
+    LeavesOpen site n nodes nodes_now (opened_at site old) new past since Opened
+LeavesNode site n nodes nodes_now old new past since (Worked made) =
+    LeavesOpen site n nodes nodes_now (opened_at site old) new past since (Worked made)
+
+-- ---- the errors of the code
+
+abbrev pub stop_of_fault : CopyFault → Stop
+stop_of_fault fault.Snap = Failed Nodes
+stop_of_fault fault.Store = Failed Storage
+stop_of_fault fault.Memory = Failed Memory
+
+-- how an error ends a backup of this name
+abbrev pub stop_of : List ℕ → BackupError → Stop
+stop_of n error.NoSnapshot = Refused (NoSnapshot n)
+stop_of n (error.BadFileName at) = Refused (BadFileName at)
+stop_of n (error.Taken path) = Refused (Taken n path)
+stop_of n (error.Fault fault) = stop_of_fault fault
+
+abbrev pub found_of : Found → List FileKey × List ℕ
+found_of found = (found.keys.items, found.schema.items)

@@ -1,0 +1,76 @@
+// Copying what was found: the schema, the files, and the manifest that names them.
+ghost use Rattle.std.specs.Prelude.{◌≡◌, ◌≤◌, IfOk};
+ghost use Rattle.med_outside.specs.Ends.{Ends, seen};
+ghost use Rattle.med_outside.specs.World.{rose_of_node};
+ghost use Rattle.med_backup.specs.Answers.{IsFound, IsCopied};
+ghost use Rattle.med_backup.specs.Plan.{IsMadeBy, copy_plan, stop_of_fault};
+
+use crate::look::Found;
+use crate::place::{CopyFault, place_all, put_meta};
+use med_base::{BackupName, Fqdn, Layout, MetaKind, NoMemory};
+use med_manifest::{FileRecord, Manifest};
+use med_outside::{Denied, Snap, Storage};
+use std::alloc::Global;
+
+/// Makes the puts of a backup, the manifest last, and answers what the manifest records.
+pub(crate) fn copy_found<S: Storage, P: Snap>(
+    alloc: Global,
+    store: &mut S,
+    snap: &mut P,
+    layout: &Layout,
+    node: &Fqdn,
+    name: &BackupName,
+    found: &Found,
+) -> Result<Vec<FileRecord>, CopyFault>
+    requires { IsFound layout.now node.now name.now (P.held snap.old) (S.state store.old).content
+        found.now.keys.items found.now.schema.items }
+    ensures ok { IfOk result
+        (λ files. IsCopied layout.now node.now name.now (P.held snap.old) found.now.keys.items
+        found.now.schema.items (S.state store.old) (S.state store.new) (S.stood_since store.old)
+        (S.stood_since store.new) files.items) }
+    ensures ends { Ends (rose_of_node (P.faults snap.old) (P.faults snap.new)
+        (S.state store.old).faults (S.state store.new).faults)
+        (IsMadeBy (S.state store.old) (S.state store.new) (S.stood_since store.old)
+        (S.stood_since store.new))
+        (copy_plan layout.now node.now name.now (P.held snap.old) found.now.keys.items
+        found.now.schema.items) (seen (λ files. files.items) stop_of_fault result) }
+    ensures snap_later { P.faults snap.old ≤ P.faults snap.new }
+    ensures store_later { (S.state store.old).faults ≤ (S.state store.new).faults }
+{
+    let schema = found.schema.as_slice();
+    match put_meta(alloc, store, layout, node, name, MetaKind::Schema, schema) {
+        Ok(()) => {}
+        Err(Denied::Failed) => return Err(CopyFault::Store),
+        Err(Denied::Memory) => return Err(CopyFault::Memory),
+    }
+    let files = match place_all(
+        alloc,
+        store,
+        snap,
+        layout,
+        node,
+        name,
+        found.keys.as_slice(),
+    ) {
+        Ok(files) => files,
+        Err(fault) => return Err(fault),
+    };
+    let manifest = Manifest { files };
+    let text = match manifest.write(alloc) {
+        Ok(text) => text,
+        Err(NoMemory) => return Err(CopyFault::Memory),
+    };
+    match put_meta(
+        alloc,
+        store,
+        layout,
+        node,
+        name,
+        MetaKind::Manifest,
+        text.as_slice(),
+    ) {
+        Ok(()) => Ok(manifest.files),
+        Err(Denied::Failed) => Err(CopyFault::Store),
+        Err(Denied::Memory) => Err(CopyFault::Memory),
+    }
+}

@@ -1,0 +1,111 @@
+// What a backup finds before it puts anything.
+ghost use Rattle.std.specs.Prelude.{◌≡◌, ◌≤◌, IfOk};
+ghost use Rattle.med_base.specs.Layout.{backup_folder};
+ghost use Rattle.med_outside.specs.Causes.{HasCause};
+ghost use Rattle.med_outside.specs.State.{Looks};
+ghost use Rattle.med_outside.specs.Ends.{Ends, seen};
+ghost use Rattle.med_outside.specs.World.{rose_of_node};
+ghost use Rattle.med_backup.specs.Answers.{IsFound};
+ghost use Rattle.med_backup.specs.Plan.{IsMadeBy, look_plan, found_of, stop_of};
+ghost use Rattle.med_backup.specs.Taken.{first_entry, IsFirstUnder};
+
+use crate::keys::{WalkError, walk};
+use crate::place::CopyFault;
+use med_base::{BackupName, FileKey, Fqdn, Layout, NoMemory, ObjPath};
+use med_outside::{Denied, Entry, Snap, Storage};
+use std::alloc::Global;
+
+/// Why a backup wasn't made.
+#[derive(Debug, Drop)]
+pub enum BackupError {
+    NoSnapshot,
+    BadFileName { at: usize },
+    Taken { path: ObjPath },
+    Fault(CopyFault),
+}
+
+/// What a backup copies: the keys of the files in order, and the schema.
+#[derive(Debug, Drop)]
+pub(crate) struct Found {
+    pub(crate) keys: Vec<FileKey>,
+    pub(crate) schema: Vec<u8>,
+}
+
+// The path of the first entry, which takes no memory.
+fn first_path_of(entries: Vec<Entry>) -> Option<ObjPath>
+    ensures { result ≡ first_entry entries.items }
+{
+    match entries.into_iter().next() {
+        Some(entry) => Some(entry.path),
+        None => None,
+    }
+}
+
+// The first path that stands under the folder of the backup.
+fn first_under<S: Storage>(
+    alloc: Global,
+    store: &mut S,
+    layout: &Layout,
+    node: &Fqdn,
+    name: &BackupName,
+) -> Result<Option<ObjPath>, Denied>
+    ensures first { IfOk result
+        (IsFirstUnder (backup_folder layout.now node.now name.now) (S.state store.old).content) }
+    ensures looks { Looks (S.state store.old) (S.state store.new) (S.stood_since store.old)
+        (S.stood_since store.new) }
+    ensures cause { HasCause (S.state store.old).faults (S.state store.new).faults result }
+{
+    let folder = match layout.backup_folder(alloc, node, name) {
+        Ok(folder) => folder,
+        Err(NoMemory) => return Err(Denied::Memory),
+    };
+    match store.list(alloc, folder.as_str()) {
+        Ok(entries) => Ok(first_path_of(entries)),
+        Err(denied) => Err(denied),
+    }
+}
+
+/// The keys and the schema of the snapshot, where its keys are names of files and the name of the
+/// backup is free.
+pub(crate) fn look<S: Storage, P: Snap>(
+    alloc: Global,
+    store: &mut S,
+    snap: &mut P,
+    layout: &Layout,
+    node: &Fqdn,
+    name: &BackupName,
+) -> Result<Found, BackupError>
+    ensures ok { IfOk result
+        (λ found. IsFound layout.now node.now name.now (P.held snap.old) (S.state store.old).content
+        found.keys.items found.schema.items) }
+    ensures ends { Ends (rose_of_node (P.faults snap.old) (P.faults snap.new)
+        (S.state store.old).faults (S.state store.new).faults)
+        (IsMadeBy (S.state store.old) (S.state store.new) (S.stood_since store.old)
+        (S.stood_since store.new))
+        (look_plan layout.now node.now name.now (P.held snap.old) (S.state store.old).content)
+        (seen found_of (stop_of name.now) result) }
+    ensures looks { Looks (S.state store.old) (S.state store.new) (S.stood_since store.old)
+        (S.stood_since store.new) }
+    ensures same { P.held snap.new ≡ P.held snap.old }
+    ensures snap_later { P.faults snap.old ≤ P.faults snap.new }
+    ensures store_later { (S.state store.old).faults ≤ (S.state store.new).faults }
+{
+    let keys = match walk(alloc, snap) {
+        Ok(keys) => keys,
+        Err(WalkError::NoSnapshot) => return Err(BackupError::NoSnapshot),
+        Err(WalkError::BadFileName { at }) => return Err(BackupError::BadFileName { at }),
+        Err(WalkError::Snap) => return Err(BackupError::Fault(CopyFault::Snap)),
+        Err(WalkError::Memory) => return Err(BackupError::Fault(CopyFault::Memory)),
+    };
+    let schema = match snap.schema(alloc) {
+        Ok(schema) => schema,
+        Err(Denied::Failed) => return Err(BackupError::Fault(CopyFault::Snap)),
+        Err(Denied::Memory) => return Err(BackupError::Fault(CopyFault::Memory)),
+    };
+    match first_under(alloc, store, layout, node, name) {
+        Ok(None) => Ok(Found { keys, schema }),
+        Ok(Some(path)) => Err(BackupError::Taken { path }),
+        Err(Denied::Failed) => Err(BackupError::Fault(CopyFault::Store)),
+        Err(Denied::Memory) => Err(BackupError::Fault(CopyFault::Memory)),
+    }
+}

@@ -1,0 +1,117 @@
+// A full backup of one node into the bucket.
+ghost use Rattle.std.specs.Prelude.{◌≡◌, ◌≤◌, IfOk};
+ghost use Rattle.med_outside.specs.Ends.{Ends, seen};
+ghost use Rattle.med_outside.specs.World.{rose_of_node};
+ghost use Rattle.med_backup.specs.Answers.{IsMade};
+ghost use Rattle.med_backup.specs.Plan.{IsMadeBy, LeavesOpen, LeavesNode, snapshot_plan, opened_plan, node_plan, stop_of};
+ghost use Rattle.med_backup.specs.Site.{site_of, opened_at, snap_at};
+
+use crate::copy::copy_found;
+use crate::look::{BackupError, look};
+use crate::place::CopyFault;
+use med_base::{BackupName, Fqdn, Layout};
+use med_ini::Config;
+use med_manifest::FileRecord;
+use med_outside::{Denied, Nodes, Snap, Storage};
+use std::alloc::Global;
+
+// Backs up the snapshot, where nothing stands against it.
+fn backup_snapshot<S: Storage, P: Snap>(
+    alloc: Global,
+    store: &mut S,
+    snap: &mut P,
+    layout: &Layout,
+    node: &Fqdn,
+    name: &BackupName,
+) -> Result<Vec<FileRecord>, BackupError>
+    ensures ok { IfOk result
+        (λ files. IsMade layout.now node.now name.now (P.held snap.old) (S.state store.old)
+        (S.state store.new) (S.stood_since store.old) (S.stood_since store.new) files.items) }
+    ensures ends { Ends (rose_of_node (P.faults snap.old) (P.faults snap.new)
+        (S.state store.old).faults (S.state store.new).faults)
+        (IsMadeBy (S.state store.old) (S.state store.new) (S.stood_since store.old)
+        (S.stood_since store.new))
+        (snapshot_plan layout.now node.now name.now (P.held snap.old) (S.state store.old).content)
+        (seen (λ files. files.items) (stop_of name.now) result) }
+    ensures snap_later { P.faults snap.old ≤ P.faults snap.new }
+    ensures store_later { (S.state store.old).faults ≤ (S.state store.new).faults }
+{
+    let found = match look(alloc, store, snap, layout, node, name) {
+        Ok(found) => found,
+        Err(refusal) => return Err(refusal),
+    };
+    match copy_found(alloc, store, snap, layout, node, name, &found) {
+        Ok(files) => Ok(files),
+        Err(fault) => Err(BackupError::Fault(fault)),
+    }
+}
+
+// Opens the node's snapshot for the backup, backs it up, and closes it whatever the answer is.
+fn backup_opened<S: Storage, N: Nodes>(
+    alloc: Global,
+    store: &mut S,
+    nodes: &mut N,
+    config: &Config,
+    name: &BackupName,
+) -> Result<Vec<FileRecord>, BackupError>
+    ensures ok { IfOk result
+        (λ files. IsMade config.now.layout config.now.node name.now
+        (snap_at (N.state nodes.old).snaps (site_of config.now) name.now) (S.state store.old)
+        (S.state store.new) (S.stood_since store.old) (S.stood_since store.new) files.items) }
+    ensures ends { Ends (rose_of_node (N.state nodes.old).faults (N.state nodes.new).faults
+        (S.state store.old).faults (S.state store.new).faults)
+        (LeavesOpen (site_of config.now) name.now (N.state nodes.old) (N.state nodes.new)
+        (S.state store.old) (S.state store.new) (S.stood_since store.old) (S.stood_since store.new))
+        (opened_plan (site_of config.now) name.now (N.state nodes.old).snaps
+        (S.state store.old).content) (seen (λ files. files.items) (stop_of name.now) result) }
+    ensures same { (N.state nodes.new).snaps ≡ (N.state nodes.old).snaps }
+    ensures nodes_later { (N.state nodes.old).faults ≤ (N.state nodes.new).faults }
+    ensures store_later { (S.state store.old).faults ≤ (S.state store.new).faults }
+{
+    let tag = match format!(in alloc; "medusa-{}", name.as_str()) {
+        Ok(tag) => tag,
+        Err(_) => return Err(BackupError::Fault(CopyFault::Memory)),
+    };
+    let root = config.nodes_root.as_str();
+    let mut snap = match nodes.open(alloc, root, &config.node, tag.as_str()) {
+        Ok(snap) => snap,
+        Err(Denied::Failed) => return Err(BackupError::Fault(CopyFault::Snap)),
+        Err(Denied::Memory) => return Err(BackupError::Fault(CopyFault::Memory)),
+    };
+    let layout = &config.layout;
+    let answer = backup_snapshot(alloc, store, &mut snap, layout, &config.node, name);
+    nodes.close(snap);
+    answer
+}
+
+/// Backs up the configured node under the name: opens the bucket, and copies the node's snapshot
+/// for the name into it.
+pub fn backup_node<S: Storage, N: Nodes>(
+    alloc: Global,
+    store: &mut S,
+    nodes: &mut N,
+    config: &Config,
+    name: &BackupName,
+) -> Result<Vec<FileRecord>, BackupError>
+    ensures ok { IfOk result
+        (λ files. IsMade config.now.layout config.now.node name.now
+        (snap_at (N.state nodes.old).snaps (site_of config.now) name.now)
+        (opened_at (site_of config.now) (S.state store.old))
+        (S.state store.new) (S.stood_since store.old) (S.stood_since store.new) files.items) }
+    ensures ends { Ends (rose_of_node (N.state nodes.old).faults (N.state nodes.new).faults
+        (S.state store.old).faults (S.state store.new).faults)
+        (LeavesNode (site_of config.now) name.now (N.state nodes.old) (N.state nodes.new)
+        (S.state store.old) (S.state store.new) (S.stood_since store.old) (S.stood_since store.new))
+        (node_plan (site_of config.now) name.now (N.state nodes.old).snaps
+        (S.state store.old).content) (seen (λ files. files.items) (stop_of name.now) result) }
+    ensures same { (N.state nodes.new).snaps ≡ (N.state nodes.old).snaps }
+    ensures nodes_later { (N.state nodes.old).faults ≤ (N.state nodes.new).faults }
+    ensures store_later { (S.state store.old).faults ≤ (S.state store.new).faults }
+{
+    let (base, bucket) = (config.base.as_str(), config.bucket.as_str());
+    match store.open(alloc, base, bucket, &config.layout) {
+        Ok(()) => backup_opened(alloc, store, nodes, config, name),
+        Err(Denied::Failed) => Err(BackupError::Fault(CopyFault::Store)),
+        Err(Denied::Memory) => Err(BackupError::Fault(CopyFault::Memory)),
+    }
+}

@@ -1,0 +1,196 @@
+-- A backup that was made is done, and how the command `backup` ends.
+use Rattle.std.proofs.Common.{◌≡◌, ◌≤◌, ◌++◌, ◌<◌, take, inl, inr, ℕ, List, ◌∷◌, [], map, Option, Some, None, IfSome, Result, Ok, Err, OnOk, OnErr, refl, sym, ap, ◌∙◌, subst, arith}
+use Rattle.std.specs.List.{AllByRecursion}
+use Rattle.std.specs.FinMap.{keys}
+use Rattle.med_base.specs.Content.{objects_under}
+use Rattle.med_base.specs.Key.{AreRising, IsKey}
+use Rattle.med_base.specs.Layout.{backup_folder}
+use Rattle.med_manifest.specs.declared.manifest.FileRecord.{FileRecord}
+use Rattle.med_manifest.specs.Manifest.{IsManifest}
+use Rattle.med_manifest.specs.Written.{manifest_text}
+use Rattle.med_base.specs.Content.{Content}
+use Rattle.med_outside.specs.Causes.{Rose}
+use Rattle.med_outside.specs.Effects.{after_all}
+use Rattle.med_outside.specs.Ends.{Device, Files, Nodes, Storage, Output, Memory, StopsAt, Steps, Ends, seen}
+use Rattle.med_outside.specs.Snapshot.{Snapshot}
+use Rattle.med_outside.proofs.EndsLemmas.{stops}
+use Rattle.med_outside.specs.World.{FileContents, World, IsLater, rose_of, rose_of_node, rose_of_output}
+use Rattle.med_outside.specs.declared.mode.Mode.TheVariants.{Full}
+use Rattle.med_words.specs.Request.{Action, Asked, backup}
+use Rattle.med_backup.specs.Answers.{IsMade}
+use Rattle.med_backup.specs.Backup.{IsFinished, IsBackupOf}
+use Rattle.med_backup.specs.Copies.{Copy, key_of, records_of, backup_puts, AreOf}
+use Rattle.med_backup.specs.Plan.{Passed, stop_of as stop_of_error}
+use Rattle.med_backup.specs.Site.{Site, opened_at, snap_at}
+use Rattle.med_backup.specs.declared.look.BackupError.{BackupError}
+use Rattle.med_backup.specs.declared.look.BackupError.TheVariants as error
+use Rattle.med_backup.specs.declared.place.CopyFault.TheVariants as copy
+use Rattle.med_backup.proofs.Finished.{finished, backup_of}
+use Rattle.med_commands.specs.Fault.{stop_of, fault_for, fault_of_load}
+use Rattle.med_commands.specs.Headline.{End, says}
+use Rattle.med_commands.specs.Loaded.{BlamesLoad}
+use Rattle.med_commands.specs.Plans.{on_files, on_output, ReadsSite, IfTold, IsDone, prints, backup_plan, action_plan, plan_of}
+use Rattle.med_commands.specs.Printed.{Wrote, WrotePart}
+use Rattle.med_commands.specs.declared.fault.Fault.{Fault}
+use Rattle.med_commands.specs.declared.load.LoadError.{LoadError}
+use Rattle.med_commands.specs.declared.load.LoadError.TheVariants as load
+
+-- ---- a backup that was made is done
+
+told_finished : (before f n schema : List ℕ) (at end : ℕ) (copies : List Copy)
+    (told after : Option Content)
+    → after ≡ after_all (backup_puts before f n schema at copies end) told
+    → IfSome told (λ c. objects_under (backup_folder before f n) c ≡ [])
+    → AreRising (map key_of copies) → AllByRecursion IsKey (map key_of copies)
+    → IsManifest before f n (manifest_text (records_of before f n copies))
+    (records_of before f n copies)
+    → IfTold told after (λ c d. IsFinished before f n c d (records_of before f n copies))
+told_finished before f n schema at end copies None after is free rising names manifest = tt
+told_finished before f n schema at end copies (Some c) after is free rising names manifest =
+    subst (λ (t : Option Content). IfTold (Some c) t
+    (λ c d. IsFinished before f n c d (records_of before f n copies))) (sym is)
+    (finished before f n schema at end c free copies rising names manifest)
+
+told_backup : (before f n schema : List ℕ) (at end : ℕ) (copies : List Copy)
+    (held : Option Snapshot)
+    (told after : Option Content)
+    → after ≡ after_all (backup_puts before f n schema at copies end) told
+    → IfSome told (λ c. objects_under (backup_folder before f n) c ≡ [])
+    → AreRising (map key_of copies) → AllByRecursion IsKey (map key_of copies)
+    → IsManifest before f n (manifest_text (records_of before f n copies))
+    (records_of before f n copies)
+    → AreOf held copies → IfSome held (λ s. map key_of copies ≡ keys s.files)
+    → IfSome held (λ s. schema ≡ s.schema)
+    → IfTold told after (λ c d. IfSome held
+    (λ s. IsBackupOf before f n s c d (records_of before f n copies)))
+told_backup before f n schema at end copies held None after is free rising names manifest of
+    keys_are
+    schema_is = tt
+told_backup before f n schema at end copies None (Some c) after is free rising names manifest of
+    keys_are
+    schema_is =
+    subst (λ (t : Option Content). IfTold (Some c) t
+    (λ c d. IfSome None (λ s. IsBackupOf before f n s c d
+    (records_of before f n copies)))) (sym is) tt
+told_backup before f n schema at end copies (Some s) (Some c) after is free rising names manifest
+    of keys_are
+    schema_is =
+    subst (λ (t : Option Content). IfTold (Some c) t
+    (λ c d. IfSome (Some s)
+    (λ s. IsBackupOf before f n s c d (records_of before f n copies)))) (sym is)
+    (backup_of before f n schema at end c free s copies rising names manifest of keys_are
+    schema_is)
+
+and_told : {A : Type 0} (held : Option A) (P Q : A → Type 0) → ((s : A) → P s → Q s) → IfSome held P
+    → IfSome held Q
+and_told None P Q f h = tt
+and_told (Some s) P Q f h = f s h
+
+pub done_of : (site : Site) (n : List ℕ) (a b : World) (files : List FileRecord)
+    → IsMade site.before site.node n (snap_at a.nodes.snaps site n) (opened_at site a.store)
+    b.store a.stood b.stood files
+    → IsDone site n a b files
+done_of site n a b files m =
+    let held = snap_at a.nodes.snaps site n in
+    let old = a.store in
+    let new = b.store in
+    let copies = m.copied.copies in
+    let rising : AreRising (map key_of copies) = subst AreRising (sym m.copied.keys_are)
+    m.found.can.rising in
+    let names : AllByRecursion IsKey (map key_of copies) = subst (AllByRecursion IsKey)
+    (sym m.copied.keys_are) m.found.can.names in
+    let manifest : IsManifest site.before site.node n
+    (manifest_text (records_of site.before site.node n copies))
+    (records_of site.before site.node n copies) =
+    subst (λ (fs : List FileRecord). IsManifest site.before site.node n (manifest_text fs) fs)
+    m.copied.files_are m.copied.manifest_is in
+    let keys_are : IfSome held (λ s. map key_of copies ≡ keys s.files) = and_told held
+    (λ s. m.order ≡ keys s.files) (λ s. map key_of copies ≡ keys s.files)
+    (λ s e. m.copied.keys_are ∙ e) m.found.can.keys_are in
+    record {
+      finished = subst (λ (fs : List FileRecord). IfTold old.content new.content
+          (λ c d. IsFinished site.before site.node n c d fs)) (sym m.copied.files_are)
+          (told_finished site.before site.node n m.schema m.copied.at m.copied.end copies
+          old.content new.content
+          m.copied.moves.passes.content m.found.was_free rising names manifest);
+      backup = subst (λ (fs : List FileRecord). IfTold old.content new.content
+          (λ c d. IfSome held (λ s. IsBackupOf site.before site.node n s c d fs)))
+          (sym m.copied.files_are)
+          (told_backup site.before site.node n m.schema m.copied.at m.copied.end copies held
+          old.content new.content
+          m.copied.moves.passes.content m.found.was_free rising names manifest m.copied.bytes_are
+          keys_are m.found.can.schema_is);
+      walked = m.found.walked;
+      was_free = m.found.was_free;
+      made = m;
+    }
+
+-- ---- steps
+
+-- why the site wasn't read
+pub load_stop : (files : FileContents) (asked : Asked) (rose : Device → Type 0) (before now : ℕ)
+    → (Rose before now → rose Files) → rose Memory → (e : LoadError)
+    → BlamesLoad files asked before now e
+    → StopsAt rose (ReadsSite files asked) on_files (stop_of (fault_of_load e))
+load_stop files asked rose before now up memory (load.Refused fault) h = (fault, h, refl)
+load_stop files asked rose before now up memory load.Read h = (inl refl, up h)
+load_stop files asked rose before now up memory load.Memory h = (inr (inl refl), memory)
+
+-- a fault of the command ends it as the error of the backup does
+pub stop_for : (n : List ℕ) (e : BackupError) → stop_of (fault_for n e) ≡ stop_of_error n e
+stop_for n error.NoSnapshot = refl
+stop_for n (error.BadFileName at) = refl
+stop_for n (error.Taken path) = refl
+stop_for n (error.Fault copy.Snap) = refl
+stop_for n (error.Fault copy.Store) = refl
+stop_for n (error.Fault copy.Memory) = refl
+
+-- what rose of a part rose of the whole
+pub up_node : (a b : World) (d : Device)
+    → rose_of_node a.nodes.faults b.nodes.faults a.store.faults b.store.faults d → rose_of a b d
+up_node a b Files h = absurd h
+up_node a b Nodes h = h
+up_node a b Storage h = h
+up_node a b Output h = absurd h
+up_node a b Memory h = h
+
+pub up_output : (a b : World) (d : Device) → rose_of_output a.out.faults b.out.faults d
+    → rose_of a b d
+up_output a b Files h = absurd h
+up_output a b Nodes h = absurd h
+up_output a b Storage h = absurd h
+up_output a b Output h = h
+up_output a b Memory h = h
+
+-- nothing is later than itself
+pub later_itself : (a : World) → IsLater a a
+later_itself a = record {
+  files = refl;
+  snaps = refl;
+  files_later = omega arith;
+  nodes_later = omega arith;
+  store_later = omega arith;
+  out_later = omega arith;
+}
+
+-- the last step of a command
+pub printed : (a b : World) (line : List ℕ) (done : Type 0) (r : Result (Unit {0}) Fault)
+    → Steps {T = Unit {0}} (rose_of_output a.out.faults b.out.faults) Passed on_output
+    (seen (λ x. x) stop_of r)
+    → done → OnOk r (Wrote line a.out.taken b.out.taken)
+    → OnErr r (WrotePart line a.out.taken b.out.taken)
+    → Ends (rose_of a b) says (prints line done a b) (seen (λ x. x) stop_of r)
+printed a b line done (Ok x) steps d whole part = inr (x, tt, (refl, (d, whole)))
+printed a b line done (Err fault) steps d whole part =
+    inl (
+      stops (rose_of_output a.out.faults b.out.faults) (rose_of a b) (up_output a b)
+          (Passed {T = Unit {0}}) on_output (stop_of fault) steps,
+      (d, part),
+    )
+
+-- the plan of a full backup is that of what is asked for
+pub asked_plan : (asked : Asked) (n : List ℕ) (a b : World) (end : End)
+    → asked.action ≡ backup n Full → Ends (rose_of a b) says (backup_plan asked n a b) end
+    → Ends (rose_of a b) says (plan_of asked a b) end
+asked_plan asked n a b end is e =
+    subst (λ (x : Action). Ends (rose_of a b) says (action_plan x asked a b) end) (sym is) e

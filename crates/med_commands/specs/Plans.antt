@@ -1,0 +1,120 @@
+-- What each command does, as a plan: its steps in their order, what each answers, and what stands
+-- where the command ends there.
+use Rattle.std.specs.Prelude.{◌≡◌, ◌⊎◌, ℕ, List, [], ◌∷◌, Option, Some, None, IfSome, Result, Ok, Err}
+use Rattle.med_base.specs.Content.{Content}
+use Rattle.med_backup.specs.Backup.{IsFinished, IsBackupOf}
+use Rattle.med_backup.specs.Plan.{Passed, Left, LeavesNode, node_plan}
+use Rattle.med_backup.specs.Answers.{IsMade}
+use Rattle.med_backup.specs.Site.{Site, site_of, opened_at, snap_at}
+use Rattle.med_backup.specs.Taken.{IsFree}
+use Rattle.med_backup.specs.Walked.{CanBeWalked}
+use Rattle.med_ini.specs.declared.config.Config.{Config}
+use Rattle.med_manifest.specs.declared.manifest.FileRecord.{FileRecord}
+use Rattle.med_outside.specs.Ends.{Device, Files, Output, Memory, Refusal, BadWords, NotBuilt, BadConfig, Plan, last, step, then, said_as}
+use Rattle.med_outside.specs.Snapshot.{Snapshot}
+use Rattle.med_outside.specs.State.{State, Moves}
+use Rattle.med_outside.specs.World.{FileContents, World}
+use Rattle.med_outside.specs.declared.mode.Mode.TheVariants.{Full}
+use Rattle.med_words.specs.Blames.{BlamesWords}
+use Rattle.med_words.specs.Request.{Action, Asked, IsRequest, backup, word_of}
+use Rattle.med_words.specs.declared.request.Usage.{Usage}
+use Rattle.med_words.specs.declared.request.WordsError.TheVariants as words_error
+use Rattle.med_commands.specs.Loaded.{IsConfigured, IsRefused, config_text}
+use Rattle.med_commands.specs.Printed.{Wrote, WrotePart}
+use Rattle.med_commands.specs.Report.{report_line}
+use Rattle.med_commands.specs.Texts.{usage_text}
+use Rattle.med_commands.specs.declared.load.ConfigFault.{ConfigFault}
+
+-- ---- what steps ask
+
+abbrev pub on_files : List Device
+on_files = Files ∷ Memory ∷ []
+
+abbrev pub on_output : List Device
+on_output = Output ∷ Memory ∷ []
+
+abbrev pub on_memory : List Device
+on_memory = Memory ∷ []
+
+-- ---- what steps answer
+
+-- where the command works; or the config file is absent or refused, which is told
+abbrev pub ReadsSite : FileContents → Asked → Result Site Refusal → Type 0
+ReadsSite files asked (Ok site) =
+    (config : Config) × IsConfigured files asked config × (site ≡ site_of config)
+ReadsSite files asked (Err (BadConfig text)) =
+    (fault : ConfigFault) × IsRefused files asked fault × (text ≡ config_text fault)
+ReadsSite files asked (Err f) = ⊥
+
+-- what the words ask for; or they ask for nothing, which is told
+abbrev pub ReadsWords : List (List ℕ) → Result Asked Refusal → Type 0
+ReadsWords words (Ok asked) = IsRequest words asked
+ReadsWords words (Err (BadWords text)) =
+    (usage : Usage) × BlamesWords words (words_error.Usage usage)
+    × ((asked : Asked) → IsRequest words asked → ⊥) × (text ≡ usage_text usage)
+ReadsWords words (Err f) = ⊥
+
+-- ---- what a command leaves
+
+-- nothing was printed
+abbrev pub IsSilent : World → World → Type 0
+IsSilent a b = b.out ≡ a.out
+
+-- neither the storage nor the nodes were asked anything, and nothing was printed
+abbrev pub IsUntouched : World → World → Type 0
+IsUntouched a b = Moves [] a.store b.store a.stood b.stood × (b.nodes ≡ a.nodes) × IsSilent a b
+
+-- nothing was asked at all
+abbrev pub IsUnasked : World → World → Type 0
+IsUnasked a b = IsUntouched a b × (b.files ≡ a.files)
+
+-- where both contents are told, this holds of them
+abbrev pub IfTold : Option Content → Option Content → (Content → Content → Type 0) → Type 0
+IfTold old new P = IfSome old (λ c. IfSome new (λ d. P c d))
+
+-- The backup of the name is finished and whole and is one of the snapshot, whose keys are names of
+-- files; the name was free, and nothing else changed. Exactly its puts were made, in the bucket of
+-- the site, which was opened for it.
+pub record IsDone (site : Site) (n : List ℕ) (a b : World) (files : List FileRecord) : Type 0 where
+  pub finished : IfTold a.store.content b.store.content
+      (λ c d. IsFinished site.before site.node n c d files)
+  pub backup : IfTold a.store.content b.store.content
+      (λ c d. IfSome (snap_at a.nodes.snaps site n)
+      (λ s. IsBackupOf site.before site.node n s c d files))
+  pub walked : IfSome (snap_at a.nodes.snaps site n) CanBeWalked
+  pub was_free : IsFree site.before site.node n a.store.content
+  pub made : IsMade site.before site.node n (snap_at a.nodes.snaps site n)
+      (opened_at site a.store) b.store a.stood b.stood files
+
+-- ---- plans
+
+-- the last step prints a line; it was written whole, or in part
+abbrev pub prints : List ℕ → (done : Type 0) → (a b : World) → Plan (Type 0) (Unit {0})
+prints line done a b =
+    step {T = Unit {0}} Passed on_output (done × WrotePart line a.out.taken b.out.taken)
+    (λ x. last (done × Wrote line a.out.taken b.out.taken) x)
+
+-- the full backup of a node
+abbrev pub backup_plan : Asked → List ℕ → (a b : World) → Plan (Type 0) (Unit {0})
+backup_plan asked n a b =
+    step (ReadsSite a.files.contents asked) on_files (IsUntouched a b) (λ site.
+    then (said_as (λ (left : Left). LeavesNode site n a.nodes b.nodes a.store b.store a.stood b.stood
+    left × IsSilent a b) (node_plan site n a.nodes.snaps a.store.content)) (λ files.
+    prints (report_line n site.node files) (IsDone site n a b files) a b))
+
+-- a command that isn't built yet
+abbrev pub unbuilt_plan : List ℕ → (a b : World) → Plan (Type 0) (Unit {0})
+unbuilt_plan word a b =
+    step {T = Unit {0}} (λ r. r ≡ Err (NotBuilt word)) [] (IsUnasked a b) (λ _. last ⊥ tt)
+
+abbrev pub action_plan : Action → Asked → (a b : World) → Plan (Type 0) (Unit {0})
+action_plan (backup n Full) asked a b = backup_plan asked n a b
+action_plan action asked a b = unbuilt_plan (word_of action) a b
+
+abbrev pub plan_of : Asked → (a b : World) → Plan (Type 0) (Unit {0})
+plan_of asked a b = action_plan asked.action asked a b
+
+-- the words are read first
+abbrev pub words_plan : List (List ℕ) → (a b : World) → Plan (Type 0) (Unit {0})
+words_plan words a b =
+    step (ReadsWords words) on_memory (IsUnasked a b) (λ asked. plan_of asked a b)
