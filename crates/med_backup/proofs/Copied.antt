@@ -16,9 +16,9 @@ use Rattle.med_manifest.specs.Manifest.{IsManifest, IsPathOf}
 use Rattle.med_manifest.specs.Written.{manifest_text}
 use Rattle.med_outside.specs.Effects.{Effect, Stores}
 use Rattle.med_outside.specs.Snapshot.{Snapshot, HasKey}
-use Rattle.med_outside.specs.State.{State, Moves}
+use Rattle.med_outside.specs.State.{State, ChangesWithin, History}
 use Rattle.med_outside.proofs.Passing.{moves_on}
-use Rattle.med_backup.specs.Answers.{CanBeCopied, IsCopied}
+use Rattle.med_backup.specs.BackedUp.{CanBeCopied, IsCopied}
 use Rattle.med_backup.specs.Copies.{Copy, key_of, put_of, records_of, backup_puts, AreOf}
 use Rattle.med_backup.specs.Placing.{PlacesAll}
 use Rattle.med_backup.specs.Taken.{IsFree}
@@ -64,12 +64,12 @@ all_have held order is = told_with held _ _
 module _ (before f n : List ℕ) (held : Option Snapshot) where
   -- all puts but the last one, and the last
   pub all_passed : (schema : List ℕ) (at : ℕ) (copies : List Copy) (end : ℕ) (s0 s1 s2 s3 : State)
-      (p0 p1 p2 p3 : ℕ → Content → Type 0)
-      → Moves (Stores (meta_path before f n Schema) schema at ∷ []) s0 s1 p0 p1
-      → Moves (map (put_of before f n) copies) s1 s2 p1 p2
-      → Moves (Stores (meta_path before f n Manifest) (manifest_text (records_of before f n copies))
+      (p0 p1 p2 p3 : History)
+      → ChangesWithin (Stores (meta_path before f n Schema) schema at ∷ []) s0 s1 p0 p1
+      → ChangesWithin (map (put_of before f n) copies) s1 s2 p1 p2
+      → ChangesWithin (Stores (meta_path before f n Manifest) (manifest_text (records_of before f n copies))
       end ∷ []) s2 s3 p2 p3
-      → Moves (backup_puts before f n schema at copies end) s0 s3 p0 p3
+      → ChangesWithin (backup_puts before f n schema at copies end) s0 s3 p0 p3
   all_passed schema at copies end s0 s1 s2 s3 p0 p1 p2 p3 first files last =
       moves_on (Stores (meta_path before f n Schema) schema at ∷ [])
       (map (put_of before f n) copies ++ Stores (meta_path before f n Manifest)
@@ -81,11 +81,11 @@ module _ (before f n : List ℕ) (held : Option Snapshot) where
 
   -- all puts were made
   pub copied_all : (order : List FileKey) (schema : List ℕ) (at : ℕ) (files : List FileRecord)
-      (text : List ℕ) (end : ℕ) (s0 s1 s2 s3 : State) (p0 p1 p2 p3 : ℕ → Content → Type 0)
+      (text : List ℕ) (end : ℕ) (s0 s1 s2 s3 : State) (p0 p1 p2 p3 : History)
       → text ≡ manifest_text files → IsManifest before f n text files
-      → Moves (Stores (meta_path before f n Schema) schema at ∷ []) s0 s1 p0 p1
+      → ChangesWithin (Stores (meta_path before f n Schema) schema at ∷ []) s0 s1 p0 p1
       → PlacesAll before f n held order s1 s2 p1 p2 files
-      → Moves (Stores (meta_path before f n Manifest) text end ∷ []) s2 s3 p2 p3
+      → ChangesWithin (Stores (meta_path before f n Manifest) text end ∷ []) s2 s3 p2 p3
       → IsCopied before f n held order schema s0 s3 p0 p3 files
   copied_all order schema at files text end s0 s1 s2 s3 p0 p1 p2 p3 text_is manifest first all
       moves = record {
@@ -98,7 +98,7 @@ module _ (before f n : List ℕ) (held : Option Snapshot) where
         manifest_is = subst (λ (t : List ℕ). IsManifest before f n t files) text_is manifest;
         moves = all_passed schema at all.places.copies end s0 s1 s2 s3 p0 p1 p2 p3 first
             all.places.moves
-            (subst (λ (t : List ℕ). Moves (Stores (meta_path before f n Manifest) t end ∷ []) s2 s3
+            (subst (λ (t : List ℕ). ChangesWithin (Stores (meta_path before f n Manifest) t end ∷ []) s2 s3
             p2
             p3) (text_is ∙ ap manifest_text all.files_are) moves);
       }
@@ -110,7 +110,7 @@ module _ (before f n : List ℕ) (held : Option Snapshot) where
   keys_recorded [] = refl
   keys_recorded (c ∷ copies) = ap (λ l. c.key ∷ l) (keys_recorded copies)
 
-  pub files_keys : (order : List FileKey) (s1 s2 : State) (p1 p2 : ℕ → Content → Type 0)
+  pub files_keys : (order : List FileKey) (s1 s2 : State) (p1 p2 : History)
       (files : List FileRecord)
       → PlacesAll before f n held order s1 s2 p1 p2 files
       → map (λ (r : FileRecord). r.key) files ≡ order
@@ -123,7 +123,7 @@ module _ (before f n : List ℕ) (held : Option Snapshot) where
   own_paths [] = tt
   own_paths (c ∷ copies) = (inr refl, own_paths copies)
 
-  pub files_paths : (order : List FileKey) (s1 s2 : State) (p1 p2 : ℕ → Content → Type 0)
+  pub files_paths : (order : List FileKey) (s1 s2 : State) (p1 p2 : History)
       (files : List FileRecord)
       → PlacesAll before f n held order s1 s2 p1 p2 files
       → AllByRecursion (λ (r : FileRecord). IsPathOf before f n r.key r.path) files
@@ -132,7 +132,7 @@ module _ (before f n : List ℕ) (held : Option Snapshot) where
       (sym all.files_are) (own_paths all.places.copies)
 
   pub files_names : (order : List FileKey) (schema : List ℕ) (s1 s2 : State)
-      (p1 p2 : ℕ → Content → Type 0) (files : List FileRecord)
+      (p1 p2 : History) (files : List FileRecord)
       → CanBeCopied held order schema → PlacesAll before f n held order s1 s2 p1 p2 files
       → AllByRecursion (λ (r : FileRecord). IsKey r.key) files
   files_names order schema s1 s2 p1 p2 files can all =

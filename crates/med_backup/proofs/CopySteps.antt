@@ -9,14 +9,14 @@ use Rattle.med_manifest.specs.Written.{manifest_text}
 use Rattle.med_outside.specs.Effects.{Effect, Stores}
 use Rattle.med_outside.specs.Ends.{Device, Stop, StopsAt, Ends}
 use Rattle.med_outside.specs.Snapshot.{Snapshot}
-use Rattle.med_outside.specs.State.{State, Moves}
+use Rattle.med_outside.specs.State.{State, ChangesWithin, History}
 use Rattle.med_outside.proofs.Passing.{moves_on}
 use Rattle.med_backup.specs.Copies.{Copy, key_of, put_of, records_of, AreOf, backup_puts}
 use Rattle.med_outside.specs.World.{rose_of_node}
 use Rattle.med_backup.specs.Placing.{IsCaused, PlacesAll, PlacesSome, MayStore}
 use Rattle.med_backup.specs.declared.place.CopyFault.{CopyFault}
 use Rattle.med_backup.specs.declared.place.CopyFault.TheVariants.{Snap, Store, Memory}
-use Rattle.med_backup.specs.Plan.{on_storage, on_both, Passed, Copies, IsCopyOf, Changes, IsNothing, IsSchemaPut, IsBegun, HasFiles, HasAll, copy_plan, IsMadeBy, stop_of_fault}
+use Rattle.med_backup.specs.Plan.{on_storage, on_both, Passed, Copies, IsCopyOf, ChangeLists, IsNothing, IsSchemaPut, IsBegun, HasFiles, HasAll, copy_plan, IsMadeBy, stop_of_fault}
 use Rattle.med_backup.proofs.Copied.{all_passed}
 
 module _ (before f n : List ℕ) (held : Option Snapshot) (order : List FileKey) (schema : List ℕ)
@@ -27,7 +27,7 @@ module _ (before f n : List ℕ) (held : Option Snapshot) (order : List FileKey)
     abbrev manifest_at : List FileRecord → ℕ → Effect
     manifest_at files at = Stores (meta_path before f n Manifest) (manifest_text files) at
 
-    copy_of : (files : List FileRecord) (s1 s2 : State) (p1 p2 : ℕ → Content → Type 0)
+    copy_of : (files : List FileRecord) (s1 s2 : State) (p1 p2 : History)
         (all : PlacesAll before f n held order s1 s2 p1 p2 files)
         → IsCopyOf before f n held order files all.places.copies
     copy_of files s1 s2 p1 p2 all = record {
@@ -38,14 +38,14 @@ module _ (before f n : List ℕ) (held : Option Snapshot) (order : List FileKey)
 
     -- ---- what each step leaves
 
-    schema_left : (s0 s1 : State) (p0 p1 : ℕ → Content → Type 0)
+    schema_left : (s0 s1 : State) (p0 p1 : History)
         → MayStore (meta_path before f n Schema) schema s0 s1 p0 p1
         → IsMadeBy s0 s1 p0 p1 (λ xs. IsNothing xs ⊎ IsSchemaPut before f n schema xs)
     schema_left s0 s1 p0 p1 (inl moves) = ([], inl refl, moves)
     schema_left s0 s1 p0 p1 (inr (at, moves)) = (schema_at at ∷ [], inr (at, refl), moves)
 
-    files_left : (at : ℕ) (s0 s1 s2 : State) (p0 p1 p2 : ℕ → Content → Type 0)
-        → Moves (schema_at at ∷ []) s0 s1 p0 p1 → PlacesSome before f n held order s1 s2 p1 p2
+    files_left : (at : ℕ) (s0 s1 s2 : State) (p0 p1 p2 : History)
+        → ChangesWithin (schema_at at ∷ []) s0 s1 p0 p1 → PlacesSome before f n held order s1 s2 p1 p2
         → IsMadeBy s0 s2 p0 p2 (IsBegun before f n schema held order)
     files_left at s0 s1 s2 p0 p1 p2 first some = (
       schema_at at ∷ map (put_of before f n) some.places.copies,
@@ -62,7 +62,7 @@ module _ (before f n : List ℕ) (held : Option Snapshot) (order : List FileKey)
     )
 
     all_files : (at : ℕ) (files : List FileRecord) (s0 s1 s2 : State)
-        (p0 p1 p2 : ℕ → Content → Type 0) → Moves (schema_at at ∷ []) s0 s1 p0 p1
+        (p0 p1 p2 : History) → ChangesWithin (schema_at at ∷ []) s0 s1 p0 p1
         → PlacesAll before f n held order s1 s2 p1 p2 files
         → IsMadeBy s0 s2 p0 p2 (HasFiles before f n schema held order files)
     unfolding copy_of
@@ -79,10 +79,10 @@ module _ (before f n : List ℕ) (held : Option Snapshot) (order : List FileKey)
     )
 
     all_made : (at : ℕ) (files : List FileRecord) (text : List ℕ) (end : ℕ) (s0 s1 s2 s3 : State)
-        (p0 p1 p2 p3 : ℕ → Content → Type 0) → text ≡ manifest_text files
-        → Moves (schema_at at ∷ []) s0 s1 p0 p1
+        (p0 p1 p2 p3 : History) → text ≡ manifest_text files
+        → ChangesWithin (schema_at at ∷ []) s0 s1 p0 p1
         → PlacesAll before f n held order s1 s2 p1 p2 files
-        → Moves (Stores (meta_path before f n Manifest) text end ∷ []) s2 s3 p2 p3
+        → ChangesWithin (Stores (meta_path before f n Manifest) text end ∷ []) s2 s3 p2 p3
         → IsMadeBy s0 s3 p0 p3 (HasAll before f n schema held order files)
     unfolding copy_of
     all_made at files text end s0 s1 s2 s3 p0 p1 p2 p3 text_is first all last = (
@@ -96,13 +96,13 @@ module _ (before f n : List ℕ) (held : Option Snapshot) (order : List FileKey)
       },
       all_passed before f n held schema at all.places.copies end s0 s1 s2 s3 p0 p1 p2 p3 first
           all.places.moves
-          (subst (λ (t : List ℕ). Moves (Stores (meta_path before f n Manifest) t end ∷ []) s2 s3 p2
+          (subst (λ (t : List ℕ). ChangesWithin (Stores (meta_path before f n Manifest) t end ∷ []) s2 s3 p2
           p3) (text_is ∙ ap manifest_text all.files_are) last),
     )
 
     manifest_left : (at : ℕ) (files : List FileRecord) (text : List ℕ) (s0 s1 s2 s3 : State)
-        (p0 p1 p2 p3 : ℕ → Content → Type 0) → text ≡ manifest_text files
-        → Moves (schema_at at ∷ []) s0 s1 p0 p1
+        (p0 p1 p2 p3 : History) → text ≡ manifest_text files
+        → ChangesWithin (schema_at at ∷ []) s0 s1 p0 p1
         → PlacesAll before f n held order s1 s2 p1 p2 files
         → MayStore (meta_path before f n Manifest) text s2 s3 p2 p3
         → IsMadeBy s0 s3 p0 p3 (λ xs. HasFiles before f n schema held order files xs
@@ -111,8 +111,8 @@ module _ (before f n : List ℕ) (held : Option Snapshot) (order : List FileKey)
         let made = all_files at files s0 s1 s2 p0 p1 p2 first all in
         (made.0, inl made.1, after made.0 made.2)
       where
-        after : (xs : List Effect) → Moves xs s0 s2 p0 p2 → Moves xs s0 s3 p0 p3
-        after xs passed = subst (λ (l : List Effect). Moves l s0 s3 p0 p3) (append-nil xs)
+        after : (xs : List Effect) → ChangesWithin xs s0 s2 p0 p2 → ChangesWithin xs s0 s3 p0 p3
+        after xs passed = subst (λ (l : List Effect). ChangesWithin l s0 s3 p0 p3) (append-nil xs)
             (moves_on xs [] s0 s2 s3 p0 p2 p3 passed moves)
     manifest_left at files text s0 s1 s2 s3 p0 p1 p2 p3 text_is first all (inr (end, moves)) =
         let made = all_made at files text end s0 s1 s2 s3 p0 p1 p2 p3 text_is first all moves in
@@ -122,7 +122,7 @@ module _ (before f n : List ℕ) (held : Option Snapshot) (order : List FileKey)
 
     module _ (rose : Device → Type 0) where
       -- the put of the schema stopped
-      pub schema_stopped : (stop : Stop) (s0 s1 : State) (p0 p1 : ℕ → Content → Type 0)
+      pub schema_stopped : (stop : Stop) (s0 s1 : State) (p0 p1 : History)
           → StopsAt {T = Unit {0}} rose Passed on_storage stop
           → MayStore (meta_path before f n Schema) schema s0 s1 p0 p1
           → Ends rose (IsMadeBy s0 s1 p0 p1) (copy_plan before f n held order schema) (Err stop)
@@ -130,9 +130,9 @@ module _ (before f n : List ℕ) (held : Option Snapshot) (order : List FileKey)
 
       -- the schema was put, and copying the files stopped
       pub files_stopped : (stop : Stop) (at : ℕ) (s0 s1 s2 : State)
-          (p0 p1 p2 : ℕ → Content → Type 0)
+          (p0 p1 p2 : History)
           → StopsAt rose (Copies before f n held order) on_both stop
-          → Moves (schema_at at ∷ []) s0 s1 p0 p1
+          → ChangesWithin (schema_at at ∷ []) s0 s1 p0 p1
           → PlacesSome before f n held order s1 s2 p1 p2
           → Ends rose (IsMadeBy s0 s2 p0 p2) (copy_plan before f n held order schema) (Err stop)
       files_stopped stop at s0 s1 s2 p0 p1 p2 why first some =
@@ -140,9 +140,9 @@ module _ (before f n : List ℕ) (held : Option Snapshot) (order : List FileKey)
 
       -- the files were put, and there was no memory for the manifest
       pub text_stopped : (stop : Stop) (at : ℕ) (files : List FileRecord) (s0 s1 s2 : State)
-          (p0 p1 p2 : ℕ → Content → Type 0)
+          (p0 p1 p2 : History)
           → StopsAt {T = Unit {0}} rose Passed on_storage stop
-          → Moves (schema_at at ∷ []) s0 s1 p0 p1
+          → ChangesWithin (schema_at at ∷ []) s0 s1 p0 p1
           → PlacesAll before f n held order s1 s2 p1 p2 files
           → Ends rose (IsMadeBy s0 s2 p0 p2) (copy_plan before f n held order schema) (Err stop)
       text_stopped stop at files s0 s1 s2 p0 p1 p2 why first all =
@@ -159,9 +159,9 @@ module _ (before f n : List ℕ) (held : Option Snapshot) (order : List FileKey)
 
       -- the files were put, and the put of the manifest stopped
       pub manifest_stopped : (stop : Stop) (at : ℕ) (files : List FileRecord) (text : List ℕ)
-          (s0 s1 s2 s3 : State) (p0 p1 p2 p3 : ℕ → Content → Type 0)
+          (s0 s1 s2 s3 : State) (p0 p1 p2 p3 : History)
           → StopsAt {T = Unit {0}} rose Passed on_storage stop
-          → text ≡ manifest_text files → Moves (schema_at at ∷ []) s0 s1 p0 p1
+          → text ≡ manifest_text files → ChangesWithin (schema_at at ∷ []) s0 s1 p0 p1
           → PlacesAll before f n held order s1 s2 p1 p2 files
           → MayStore (meta_path before f n Manifest) text s2 s3 p2 p3
           → Ends rose (IsMadeBy s0 s3 p0 p3) (copy_plan before f n held order schema) (Err stop)
@@ -181,10 +181,10 @@ module _ (before f n : List ℕ) (held : Option Snapshot) (order : List FileKey)
 
       -- all was put
       pub all_put : (at : ℕ) (files : List FileRecord) (text : List ℕ) (end : ℕ)
-          (s0 s1 s2 s3 : State) (p0 p1 p2 p3 : ℕ → Content → Type 0) → text ≡ manifest_text files
-          → Moves (schema_at at ∷ []) s0 s1 p0 p1
+          (s0 s1 s2 s3 : State) (p0 p1 p2 p3 : History) → text ≡ manifest_text files
+          → ChangesWithin (schema_at at ∷ []) s0 s1 p0 p1
           → PlacesAll before f n held order s1 s2 p1 p2 files
-          → Moves (Stores (meta_path before f n Manifest) text end ∷ []) s2 s3 p2 p3
+          → ChangesWithin (Stores (meta_path before f n Manifest) text end ∷ []) s2 s3 p2 p3
           → Ends rose (IsMadeBy s0 s3 p0 p3) (copy_plan before f n held order schema) (Ok files)
       all_put at files text end s0 s1 s2 s3 p0 p1 p2 p3 text_is first all last =
           inr (

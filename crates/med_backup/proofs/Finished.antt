@@ -15,7 +15,7 @@ use Rattle.med_manifest.specs.Whole.{HasManifest, IsStoredAs}
 use Rattle.med_manifest.specs.Written.{manifest_text}
 use Rattle.med_outside.specs.Effects.{Effect, Stores, applied}
 use Rattle.med_outside.specs.Snapshot.{Snapshot}
-use Rattle.med_backup.specs.Backup.{HoldsBytes, IsFileOf, IsBackupOf, AddsAt, paths_of, IsFinished}
+use Rattle.med_backup.specs.Backup.{HoldsBytes, IsFileOf, IsBackupOf, AddsAt, paths_of, FinishesBackup}
 use Rattle.med_backup.specs.Copies.{Copy, key_of, put_of, records_of, backup_puts}
 use Rattle.med_backup.proofs.Apart.{own_under, meta_under, own_or_meta, schema_or_manifest, later_apart, meta_apart}
 use Rattle.med_base.proofs.Lists.{all_append}
@@ -158,7 +158,7 @@ module _ (before f n schema : List ℕ) (at end : ℕ) (c : Content)
   pub finished : (copies : List Copy) → AreRising (map key_of copies)
       → AllByRecursion IsKey (map key_of copies)
       → IsManifest before f n (texts copies) (records_of before f n copies)
-      → IsFinished before f n c (left copies) (records_of before f n copies)
+      → FinishesBackup before f n c (left copies) (records_of before f n copies)
   finished copies rising names manifest =
       let stand = all_stand copies rising names in
       record {

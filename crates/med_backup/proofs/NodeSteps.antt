@@ -5,13 +5,13 @@ use Rattle.med_base.specs.Content.{Content}
 use Rattle.med_manifest.specs.declared.manifest.FileRecord.{FileRecord}
 use Rattle.med_outside.specs.Ends.{Device, Files, Nodes, Storage, Output, Memory}
 use Rattle.med_outside.specs.Snapshot.{Snapshot}
-use Rattle.med_outside.specs.State.{State, Passes, Moves}
+use Rattle.med_outside.specs.State.{State, Changes, ChangesWithin, History}
 use Rattle.med_outside.specs.World.{NodesState, rose_of_node}
 use Rattle.med_outside.proofs.Passing.{moves_on, after_all-nothing}
-use Rattle.med_backup.specs.Answers.{IsFound, IsCopied, IsMade}
+use Rattle.med_backup.specs.BackedUp.{IsFound, IsCopied, IsBackedUpFrom}
 use Rattle.med_backup.specs.Copies.{backup_puts}
-use Rattle.med_backup.specs.Plan.{Changes, IsMadeBy, Left, Unopened, Opened, Worked, LeavesOpen, LeavesNode}
-use Rattle.med_backup.specs.Site.{Site, opened_at}
+use Rattle.med_backup.specs.Plan.{ChangeLists, IsMadeBy, Left, Unopened, Opened, Worked, LeavesOpen, LeavesNode}
+use Rattle.med_backup.specs.NodeConfig.{NodeConfig, opened_at}
 
 pub ok_with : {T E : Type 0} (r : Result T E) (P Q : T → Type 0) → ((x : T) → P x → Q x) → IfOk r P
     → IfOk r Q
@@ -41,30 +41,30 @@ closed_rose nb nm nn fresh snap sb sn later zero_is sum Memory h = h
 
 -- ---- after calls that changed no content
 
-pub same_content : (s0 s1 : State) (p0 p1 : ℕ → Content → Type 0) → Passes [] s0 s1 p0 p1
+pub same_content : (s0 s1 : State) (p0 p1 : History) → Changes [] s0 s1 p0 p1
     → s1.content ≡ s0.content
 same_content s0 s1 p0 p1 a = a.content ∙ after_all-nothing s0.content
 
-pub made_later : (s0 s1 s2 : State) (p0 p1 p2 : ℕ → Content → Type 0) → Moves [] s0 s1 p0 p1
-    → (made : Changes) → IsMadeBy s1 s2 p1 p2 made → IsMadeBy s0 s2 p0 p2 made
+pub made_later : (s0 s1 s2 : State) (p0 p1 p2 : History) → ChangesWithin [] s0 s1 p0 p1
+    → (made : ChangeLists) → IsMadeBy s1 s2 p1 p2 made → IsMadeBy s0 s2 p0 p2 made
 made_later s0 s1 s2 p0 p1 p2 first made (xs, is, moves) =
     (xs, is, moves_on [] xs s0 s1 s2 p0 p1 p2 first moves)
 
 -- what is left over a bucket that was opened first
-pub left_later : (site : Site) (n : List ℕ) (nodes nodes_now : NodesState) (s0 s1 s2 : State)
-    (p0 p1 p2 : ℕ → Content → Type 0) → Moves [] (opened_at site s0) s1 p0 p1 → (left : Left)
-    → LeavesOpen site n nodes nodes_now s1 s2 p1 p2 left
-    → LeavesNode site n nodes nodes_now s0 s2 p0 p2 left
-left_later site n nodes nodes_now s0 s1 s2 p0 p1 p2 first Unopened h = absurd h
-left_later site n nodes nodes_now s0 s1 s2 p0 p1 p2 first Opened (moves, counts) =
-    (moves_on [] [] (opened_at site s0) s1 s2 p0 p1 p2 first moves, counts)
-left_later site n nodes nodes_now s0 s1 s2 p0 p1 p2 first (Worked made) (left, counts) =
-    (made_later (opened_at site s0) s1 s2 p0 p1 p2 first made left, counts)
+pub left_later : (node_config : NodeConfig) (n : List ℕ) (nodes nodes_now : NodesState) (s0 s1 s2 : State)
+    (p0 p1 p2 : History) → ChangesWithin [] (opened_at node_config s0) s1 p0 p1 → (left : Left)
+    → LeavesOpen node_config n nodes nodes_now s1 s2 p1 p2 left
+    → LeavesNode node_config n nodes nodes_now s0 s2 p0 p2 left
+left_later node_config n nodes nodes_now s0 s1 s2 p0 p1 p2 first Unopened h = absurd h
+left_later node_config n nodes nodes_now s0 s1 s2 p0 p1 p2 first Opened (moves, counts) =
+    (moves_on [] [] (opened_at node_config s0) s1 s2 p0 p1 p2 first moves, counts)
+left_later node_config n nodes nodes_now s0 s1 s2 p0 p1 p2 first (Worked made) (left, counts) =
+    (made_later (opened_at node_config s0) s1 s2 p0 p1 p2 first made left, counts)
 
 module _ (before f n : List ℕ) (held : Option Snapshot) where
   pub copied_after : (order : List FileKey) (schema : List ℕ) (s0 s1 s2 : State)
-      (p0 p1 p2 : ℕ → Content → Type 0) (files : List FileRecord)
-      → Moves [] s0 s1 p0 p1 → IsCopied before f n held order schema s1 s2 p1 p2 files
+      (p0 p1 p2 : History) (files : List FileRecord)
+      → ChangesWithin [] s0 s1 p0 p1 → IsCopied before f n held order schema s1 s2 p1 p2 files
       → IsCopied before f n held order schema s0 s2 p0 p2 files
   copied_after order schema s0 s1 s2 p0 p1 p2 files first c = record {
     at = c.at;
@@ -78,9 +78,9 @@ module _ (before f n : List ℕ) (held : Option Snapshot) where
         first c.moves;
   }
 
-  pub made_after : (s0 s1 s2 : State) (p0 p1 p2 : ℕ → Content → Type 0) (files : List FileRecord)
-      → Moves [] s0 s1 p0 p1 → IsMade before f n held s1 s2 p1 p2 files
-      → IsMade before f n held s0 s2 p0 p2 files
+  pub made_after : (s0 s1 s2 : State) (p0 p1 p2 : History) (files : List FileRecord)
+      → ChangesWithin [] s0 s1 p0 p1 → IsBackedUpFrom before f n held s1 s2 p1 p2 files
+      → IsBackedUpFrom before f n held s0 s2 p0 p2 files
   made_after s0 s1 s2 p0 p1 p2 files first m = record {
     order = m.order;
     schema = m.schema;

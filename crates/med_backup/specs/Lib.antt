@@ -1,8 +1,8 @@
-pub mod Answers
+pub mod BackedUp
 pub mod Backup
 pub mod Copies
 pub mod Placing
 pub mod Plan
-pub mod Site
+pub mod NodeConfig
 pub mod Taken
 pub mod Walked

@@ -12,10 +12,10 @@ use Rattle.med_outside.specs.Counts.{Tagged, tagged, opened_once}
 use Rattle.med_outside.specs.Effects.{Effect, Stores}
 use Rattle.med_outside.specs.Ends.{Device, Nodes, Storage, Memory, Refusal, Taken, NoSnapshot, BadFileName, Stop, Refused, Failed, Plan, last, step, then, said_as}
 use Rattle.med_outside.specs.Snapshot.{Snapshot}
-use Rattle.med_outside.specs.State.{State, Moves}
-use Rattle.med_outside.specs.World.{History, NodesState, Snapshots}
+use Rattle.med_outside.specs.State.{State, ChangesWithin, History}
+use Rattle.med_outside.specs.World.{NodesState, Snapshots}
 use Rattle.med_backup.specs.Copies.{Copy, key_of, put_of, records_of, backup_puts, AreOf}
-use Rattle.med_backup.specs.Site.{Site, opened_at, snap_at, tag_of}
+use Rattle.med_backup.specs.NodeConfig.{NodeConfig, opened_at, snap_at, tag_of}
 use Rattle.med_backup.specs.Taken.{IsFree, IsFirstUnder}
 use Rattle.med_backup.specs.Walked.{CanBeWalked, IsFirstBad}
 use Rattle.med_backup.specs.declared.look.BackupError.{BackupError}
@@ -75,15 +75,15 @@ Copies before f n held order (Err e) = ⊥
 
 -- ---- what the steps leave: the lists of changes of which one was made
 
-abbrev pub Changes : Type 1
-Changes = List Effect → Type 0
+abbrev pub ChangeLists : Type 1
+ChangeLists = List Effect → Type 0
 
 -- no change
-abbrev pub IsNothing : Changes
+abbrev pub IsNothing : ChangeLists
 IsNothing xs = xs ≡ []
 
 -- the schema was put
-abbrev pub IsSchemaPut : (before f n schema : List ℕ) → Changes
+abbrev pub IsSchemaPut : (before f n schema : List ℕ) → ChangeLists
 IsSchemaPut before f n schema xs =
     (at : ℕ) × (xs ≡ Stores (meta_path before f n Schema) schema at ∷ [])
 
@@ -118,7 +118,7 @@ pub record HasAll (before f n schema : List ℕ) (held : Option Snapshot) (order
 
 -- the look before anything is put: the keys, the schema, and whether the name is free
 abbrev pub look_plan : (before f n : List ℕ) → Option Snapshot → Option Content
-    → Plan Changes (List FileKey × List ℕ)
+    → Plan ChangeLists (List FileKey × List ℕ)
 look_plan before f n held told =
     step (Walks n held) on_nodes IsNothing (λ order.
     step (ReadsSchema held) on_nodes IsNothing (λ schema.
@@ -127,7 +127,7 @@ look_plan before f n held told =
 
 -- the puts: the schema, the files, and the manifest
 abbrev pub copy_plan : (before f n : List ℕ) → Option Snapshot → (order : List FileKey)
-    → (schema : List ℕ) → Plan Changes (List FileRecord)
+    → (schema : List ℕ) → Plan ChangeLists (List FileRecord)
 copy_plan before f n held order schema =
     step {T = Unit {0}} Passed on_storage
     (λ xs. IsNothing xs ⊎ IsSchemaPut before f n schema xs) (λ _.
@@ -139,7 +139,7 @@ copy_plan before f n held order schema =
 
 -- the work over an open bucket and an open snapshot
 abbrev pub snapshot_plan : (before f n : List ℕ) → Option Snapshot → Option Content
-    → Plan Changes (List FileRecord)
+    → Plan ChangeLists (List FileRecord)
 snapshot_plan before f n held told =
     then (look_plan before f n held told) (λ found. copy_plan before f n held found.0 found.1)
 
@@ -150,47 +150,47 @@ pub data Left : Type 1 where
   -- the bucket is open, no snapshot was opened, and nothing changed
   Opened : Left
   -- the snapshot was opened and closed, and one of these lists of changes was made
-  Worked : Changes → Left
+  Worked : ChangeLists → Left
 
 -- the work on a node whose bucket is open
-abbrev pub opened_plan : Site → List ℕ → Snapshots → Option Content → Plan Left (List FileRecord)
-opened_plan site n snaps told =
+abbrev pub opened_plan : NodeConfig → List ℕ → Snapshots → Option Content → Plan Left (List FileRecord)
+opened_plan node_config n snaps told =
     step {T = Unit {0}} Passed on_nodes Opened (λ _. said_as Worked
-    (snapshot_plan site.before site.node n (snap_at snaps site n) told))
+    (snapshot_plan node_config.before node_config.node n (snap_at snaps node_config n) told))
 
-abbrev pub node_plan : Site → List ℕ → Snapshots → Option Content → Plan Left (List FileRecord)
-node_plan site n snaps told =
-    step {T = Unit {0}} Passed on_storage Unopened (λ _. opened_plan site n snaps told)
+abbrev pub node_plan : NodeConfig → List ℕ → Snapshots → Option Content → Plan Left (List FileRecord)
+node_plan node_config n snaps told =
+    step {T = Unit {0}} Passed on_storage Unopened (λ _. opened_plan node_config n snaps told)
 
 -- ---- what the words mean
 
 -- one of these lists of changes was made, and nothing else
-abbrev pub IsMadeBy : (old new : State) → (past since : History) → Changes → Type 0
-IsMadeBy old new past since made = (xs : List Effect) × made xs × Moves xs old new past since
+abbrev pub IsMadeBy : (old new : State) → (stood_before stood_after : History) → ChangeLists → Type 0
+IsMadeBy old new stood_before stood_after made = (xs : List Effect) × made xs × ChangesWithin xs old new stood_before stood_after
 
 -- what is opened for the backup
-abbrev pub tagged_at : Site → List ℕ → Tagged
-tagged_at site n = tagged site.nodes_root site.node (tag_of n)
+abbrev pub tagged_at : NodeConfig → List ℕ → Tagged
+tagged_at node_config n = tagged node_config.nodes_root node_config.node (tag_of n)
 
 -- over a bucket that is open
-abbrev pub LeavesOpen : Site → List ℕ → (nodes nodes_now : NodesState) → (old new : State)
-    → (past since : History) → Left → Type 0
-LeavesOpen site n nodes nodes_now old new past since Unopened = ⊥
-LeavesOpen site n nodes nodes_now old new past since Opened =
-    Moves [] old new past since × (nodes_now.counts ≡ nodes.counts)
-LeavesOpen site n nodes nodes_now old new past since (Worked made) =
-    IsMadeBy old new past since made
-    × (nodes_now.counts ≡ opened_once (tagged_at site n) nodes.counts)
+abbrev pub LeavesOpen : NodeConfig → List ℕ → (nodes nodes_now : NodesState) → (old new : State)
+    → (stood_before stood_after : History) → Left → Type 0
+LeavesOpen node_config n nodes nodes_now old new stood_before stood_after Unopened = ⊥
+LeavesOpen node_config n nodes nodes_now old new stood_before stood_after Opened =
+    ChangesWithin [] old new stood_before stood_after × (nodes_now.counts ≡ nodes.counts)
+LeavesOpen node_config n nodes nodes_now old new stood_before stood_after (Worked made) =
+    IsMadeBy old new stood_before stood_after made
+    × (nodes_now.counts ≡ opened_once (tagged_at node_config n) nodes.counts)
 
 -- over a bucket that is opened in the first step
-abbrev pub LeavesNode : Site → List ℕ → (nodes nodes_now : NodesState) → (old new : State)
-    → (past since : History) → Left → Type 0
-LeavesNode site n nodes nodes_now old new past since Unopened =
-    Moves [] old new past since × (nodes_now.counts ≡ nodes.counts)
-LeavesNode site n nodes nodes_now old new past since Opened =
-    LeavesOpen site n nodes nodes_now (opened_at site old) new past since Opened
-LeavesNode site n nodes nodes_now old new past since (Worked made) =
-    LeavesOpen site n nodes nodes_now (opened_at site old) new past since (Worked made)
+abbrev pub LeavesNode : NodeConfig → List ℕ → (nodes nodes_now : NodesState) → (old new : State)
+    → (stood_before stood_after : History) → Left → Type 0
+LeavesNode node_config n nodes nodes_now old new stood_before stood_after Unopened =
+    ChangesWithin [] old new stood_before stood_after × (nodes_now.counts ≡ nodes.counts)
+LeavesNode node_config n nodes nodes_now old new stood_before stood_after Opened =
+    LeavesOpen node_config n nodes nodes_now (opened_at node_config old) new stood_before stood_after Opened
+LeavesNode node_config n nodes nodes_now old new stood_before stood_after (Worked made) =
+    LeavesOpen node_config n nodes nodes_now (opened_at node_config old) new stood_before stood_after (Worked made)
 
 -- ---- the errors of the code
 

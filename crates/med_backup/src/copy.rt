@@ -2,7 +2,7 @@
 ghost use Rattle.std.specs.Prelude.{◌≡◌, ◌≤◌, IfOk};
 ghost use Rattle.med_outside.specs.Ends.{Ends, seen};
 ghost use Rattle.med_outside.specs.World.{rose_of_node};
-ghost use Rattle.med_backup.specs.Answers.{IsFound, IsCopied};
+ghost use Rattle.med_backup.specs.BackedUp.{IsFound, IsCopied};
 ghost use Rattle.med_backup.specs.Plan.{IsMadeBy, copy_plan, stop_of_fault};
 
 use crate::look::Found;

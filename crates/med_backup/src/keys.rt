@@ -4,8 +4,8 @@ ghost use Rattle.std.specs.List.{AllByRecursion};
 ghost use Rattle.std.specs.FinMap as finite;
 ghost use Rattle.med_base.specs.Names.{component_fault};
 ghost use Rattle.med_base.specs.Key.{AreRising, IsKey};
-ghost use Rattle.med_outside.specs.Causes.{Rose};
-ghost use Rattle.med_outside.specs.Snapshot.{raw_name};
+ghost use Rattle.med_outside.specs.Causes.{RoseOrFull};
+ghost use Rattle.med_outside.specs.Snapshot.{key_of_raw};
 ghost use Rattle.med_backup.specs.Walked.{CanBeWalked, BlamesWalk, BlamesKeys, added};
 
 use med_base::{Component, FileKey, NameError, NoMemory};
@@ -41,8 +41,8 @@ fn component(alloc: Global, text: &str) -> Result<Option<Component>, NoMemory>
 // The key of three components, or `None` where a part is none.
 fn file_key(alloc: Global, raw: &RawKey) -> Result<Option<FileKey>, NoMemory>
     ensures { IfOk result
-        (λ key. MatchOption key (IsKey (raw_name raw.now) → ⊥)
-        (λ k. (k ≡ raw_name raw.now) × IsKey (raw_name raw.now))) }
+        (λ key. MatchOption key (IsKey (key_of_raw raw.now) → ⊥)
+        (λ k. (k ≡ key_of_raw raw.now) × IsKey (key_of_raw raw.now))) }
 {
     let Some(keyspace) = component(alloc, raw.keyspace.as_str())? else {
         return Ok(None);
@@ -63,9 +63,9 @@ fn file_key(alloc: Global, raw: &RawKey) -> Result<Option<FileKey>, NoMemory>
 // The keys in order, each once.
 fn ordered(alloc: Global, raws: &[RawKey]) -> Result<BTreeMap<FileKey, ()>, WalkError>
     ensures keys { IfOk result
-        (λ keys. keys.entries ≡ finite.entries (added finite.empty (map raw_name raws.now))) }
-    ensures names { OnOk result (AllByRecursion IsKey (map raw_name raws.now)) }
-    ensures err { IfErr result (BlamesKeys (map raw_name raws.now)) }
+        (λ keys. keys.entries ≡ finite.entries (added finite.empty (map key_of_raw raws.now))) }
+    ensures names { OnOk result (AllByRecursion IsKey (map key_of_raw raws.now)) }
+    ensures err { IfErr result (BlamesKeys (map key_of_raw raws.now)) }
 {
     let mut keys = BTreeMap::new(alloc);
     for (at, raw) in raws.iter().enumerate() {
@@ -100,7 +100,7 @@ pub fn walk<P: Snap>(alloc: Global, snap: &mut P) -> Result<Vec<FileKey>, WalkEr
     ensures same { P.held snap.new ≡ P.held snap.old }
     ensures later { P.faults snap.old ≤ P.faults snap.new }
     ensures snap_fault { IsErrOf result WalkError.Snap
-        → Rose (P.faults snap.old) (P.faults snap.new) }
+        → RoseOrFull (P.faults snap.old) (P.faults snap.new) }
 {
     let raws = match snap.keys(alloc) {
         Ok(raws) => raws,

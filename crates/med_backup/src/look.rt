@@ -2,10 +2,10 @@
 ghost use Rattle.std.specs.Prelude.{◌≡◌, ◌≤◌, IfOk};
 ghost use Rattle.med_base.specs.Layout.{backup_folder};
 ghost use Rattle.med_outside.specs.Causes.{HasCause};
-ghost use Rattle.med_outside.specs.State.{Looks};
+ghost use Rattle.med_outside.specs.State.{OnlyReads};
 ghost use Rattle.med_outside.specs.Ends.{Ends, seen};
 ghost use Rattle.med_outside.specs.World.{rose_of_node};
-ghost use Rattle.med_backup.specs.Answers.{IsFound};
+ghost use Rattle.med_backup.specs.BackedUp.{IsFound};
 ghost use Rattle.med_backup.specs.Plan.{IsMadeBy, look_plan, found_of, stop_of};
 ghost use Rattle.med_backup.specs.Taken.{first_entry, IsFirstUnder};
 
@@ -51,7 +51,7 @@ fn first_under<S: Storage>(
 ) -> Result<Option<ObjPath>, Denied>
     ensures first { IfOk result
         (IsFirstUnder (backup_folder layout.now node.now name.now) (S.state store.old).content) }
-    ensures looks { Looks (S.state store.old) (S.state store.new) (S.stood_since store.old)
+    ensures looks { OnlyReads (S.state store.old) (S.state store.new) (S.stood_since store.old)
         (S.stood_since store.new) }
     ensures cause { HasCause (S.state store.old).faults (S.state store.new).faults result }
 {
@@ -84,7 +84,7 @@ pub(crate) fn look<S: Storage, P: Snap>(
         (S.stood_since store.new))
         (look_plan layout.now node.now name.now (P.held snap.old) (S.state store.old).content)
         (seen found_of (stop_of name.now) result) }
-    ensures looks { Looks (S.state store.old) (S.state store.new) (S.stood_since store.old)
+    ensures looks { OnlyReads (S.state store.old) (S.state store.new) (S.stood_since store.old)
         (S.stood_since store.new) }
     ensures same { P.held snap.new ≡ P.held snap.old }
     ensures snap_later { P.faults snap.old ≤ P.faults snap.new }

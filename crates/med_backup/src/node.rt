@@ -2,9 +2,9 @@
 ghost use Rattle.std.specs.Prelude.{◌≡◌, ◌≤◌, IfOk};
 ghost use Rattle.med_outside.specs.Ends.{Ends, seen};
 ghost use Rattle.med_outside.specs.World.{rose_of_node};
-ghost use Rattle.med_backup.specs.Answers.{IsMade};
+ghost use Rattle.med_backup.specs.BackedUp.{IsBackedUpFrom};
 ghost use Rattle.med_backup.specs.Plan.{IsMadeBy, LeavesOpen, LeavesNode, snapshot_plan, opened_plan, node_plan, stop_of};
-ghost use Rattle.med_backup.specs.Site.{site_of, opened_at, snap_at};
+ghost use Rattle.med_backup.specs.NodeConfig.{node_config_of, opened_at, snap_at};
 
 use crate::copy::copy_found;
 use crate::look::{BackupError, look};
@@ -25,7 +25,7 @@ fn backup_snapshot<S: Storage, P: Snap>(
     name: &BackupName,
 ) -> Result<Vec<FileRecord>, BackupError>
     ensures ok { IfOk result
-        (λ files. IsMade layout.now node.now name.now (P.held snap.old) (S.state store.old)
+        (λ files. IsBackedUpFrom layout.now node.now name.now (P.held snap.old) (S.state store.old)
         (S.state store.new) (S.stood_since store.old) (S.stood_since store.new) files.items) }
     ensures ends { Ends (rose_of_node (P.faults snap.old) (P.faults snap.new)
         (S.state store.old).faults (S.state store.new).faults)
@@ -55,14 +55,14 @@ fn backup_opened<S: Storage, N: Nodes>(
     name: &BackupName,
 ) -> Result<Vec<FileRecord>, BackupError>
     ensures ok { IfOk result
-        (λ files. IsMade config.now.layout config.now.node name.now
-        (snap_at (N.state nodes.old).snaps (site_of config.now) name.now) (S.state store.old)
+        (λ files. IsBackedUpFrom config.now.layout config.now.node name.now
+        (snap_at (N.state nodes.old).snaps (node_config_of config.now) name.now) (S.state store.old)
         (S.state store.new) (S.stood_since store.old) (S.stood_since store.new) files.items) }
     ensures ends { Ends (rose_of_node (N.state nodes.old).faults (N.state nodes.new).faults
         (S.state store.old).faults (S.state store.new).faults)
-        (LeavesOpen (site_of config.now) name.now (N.state nodes.old) (N.state nodes.new)
+        (LeavesOpen (node_config_of config.now) name.now (N.state nodes.old) (N.state nodes.new)
         (S.state store.old) (S.state store.new) (S.stood_since store.old) (S.stood_since store.new))
-        (opened_plan (site_of config.now) name.now (N.state nodes.old).snaps
+        (opened_plan (node_config_of config.now) name.now (N.state nodes.old).snaps
         (S.state store.old).content) (seen (λ files. files.items) (stop_of name.now) result) }
     ensures same { (N.state nodes.new).snaps ≡ (N.state nodes.old).snaps }
     ensures nodes_later { (N.state nodes.old).faults ≤ (N.state nodes.new).faults }
@@ -94,15 +94,15 @@ pub fn backup_node<S: Storage, N: Nodes>(
     name: &BackupName,
 ) -> Result<Vec<FileRecord>, BackupError>
     ensures ok { IfOk result
-        (λ files. IsMade config.now.layout config.now.node name.now
-        (snap_at (N.state nodes.old).snaps (site_of config.now) name.now)
-        (opened_at (site_of config.now) (S.state store.old))
+        (λ files. IsBackedUpFrom config.now.layout config.now.node name.now
+        (snap_at (N.state nodes.old).snaps (node_config_of config.now) name.now)
+        (opened_at (node_config_of config.now) (S.state store.old))
         (S.state store.new) (S.stood_since store.old) (S.stood_since store.new) files.items) }
     ensures ends { Ends (rose_of_node (N.state nodes.old).faults (N.state nodes.new).faults
         (S.state store.old).faults (S.state store.new).faults)
-        (LeavesNode (site_of config.now) name.now (N.state nodes.old) (N.state nodes.new)
+        (LeavesNode (node_config_of config.now) name.now (N.state nodes.old) (N.state nodes.new)
         (S.state store.old) (S.state store.new) (S.stood_since store.old) (S.stood_since store.new))
-        (node_plan (site_of config.now) name.now (N.state nodes.old).snaps
+        (node_plan (node_config_of config.now) name.now (N.state nodes.old).snaps
         (S.state store.old).content) (seen (λ files. files.items) (stop_of name.now) result) }
     ensures same { (N.state nodes.new).snaps ≡ (N.state nodes.old).snaps }
     ensures nodes_later { (N.state nodes.old).faults ≤ (N.state nodes.new).faults }

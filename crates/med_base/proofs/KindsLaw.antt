@@ -4,7 +4,7 @@ use Rattle.std.proofs.lemmas.Slice.Eq.{bytes_eq-Decides}
 use Rattle.med_base.specs.Entries.{behind, entry_of}
 use Rattle.med_base.specs.Names.{fqdn_fault, backup_fault}
 use Rattle.med_base.specs.Kinds.{Kind, Shared, Own, Meta, Entry, Latest, Stray, Other, IsFqdn}
-use Rattle.med_base.specs.KindOf.{IsInBackup, IsStray, IsOther, IsOfKind, KindsAreTold, PathsAreApart}
+use Rattle.med_base.specs.KindRelation.{IsInBackup, IsStray, IsOther, IsOfKind, KindsAreTold, PathsAreApart}
 use Rattle.med_base.specs.Classify.{pair_of, node_kind, entry_kind, latest_kind, index_kind, kind_below, kind_of}
 use Rattle.med_base.specs.Prefix.{parts}
 use Rattle.med_base.proofs.Paths.{HasNoSlash, same_parts, same_rest}

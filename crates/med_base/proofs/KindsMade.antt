@@ -8,7 +8,7 @@ use Rattle.med_base.specs.Key.{IsKey}
 use Rattle.med_base.specs.Entries.{entry_of}
 use Rattle.med_base.specs.Names.{fqdn_fault, backup_fault}
 use Rattle.med_base.specs.Kinds.{Kind, Shared, Own, Meta, Entry, Latest, Stray, Other, IsFqdn, IsBackupName, HasSecond}
-use Rattle.med_base.specs.KindOf.{BuiltIsTold}
+use Rattle.med_base.specs.KindRelation.{BuiltIsTold}
 use Rattle.med_base.specs.Classify.{is_component, key_of, backup_kind, node_kind, index_kind, kind_below, kind_of}
 use Rattle.med_base.specs.Layout.{shared_path, own_path, meta_path, meta_file, entry_path, entry_file, latest_path, latest_file}
 use Rattle.med_base.specs.Prefix.{parts}

@@ -6,7 +6,7 @@ use Rattle.med_base.specs.declared.layout.MetaKind.{MetaKind}
 use Rattle.med_base.specs.Key.{IsKey}
 use Rattle.med_base.specs.Names.{backup_fault}
 use Rattle.med_base.specs.Kinds.{Kind, Shared, Own, Meta, Stray, Other, IsFqdn, IsBackupName, path_of}
-use Rattle.med_base.specs.KindOf.{IsUnbuilt, IsInBackup, IsOfKind}
+use Rattle.med_base.specs.KindRelation.{IsUnbuilt, IsInBackup, IsOfKind}
 use Rattle.med_base.specs.Classify.{is_component, pair_of, valid_key, key_of, meta_of, backup_kind, node_kind, kind_of}
 use Rattle.med_base.specs.Layout.{node_folder, meta_file}
 use Rattle.med_base.specs.Prefix.{parts}

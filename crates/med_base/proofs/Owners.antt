@@ -4,7 +4,7 @@ use Rattle.med_base.specs.declared.layout.MetaKind.{MetaKind}
 use Rattle.med_base.specs.declared.key.FileKey.{FileKey}
 use Rattle.med_base.specs.Names.{backup_fault}
 use Rattle.med_base.specs.Kinds.{Kind, Shared, Own, Meta, Entry, Latest, Stray, Other, IsFqdn, path_of, IsBuilt}
-use Rattle.med_base.specs.KindOf.{IsOfKind}
+use Rattle.med_base.specs.KindRelation.{IsOfKind}
 use Rattle.med_base.specs.Classify.{key_of, meta_of, backup_kind, node_kind, kind_of}
 use Rattle.med_base.specs.Layout.{node_folder, shared_path, own_path, meta_path, meta_file}
 use Rattle.med_base.specs.Part.{owner_in, owner_of, BelongsTo, lies_under, is_entry, is_latest, OwnersAreTold}

@@ -7,7 +7,7 @@ pub mod Entries
 pub mod Fingerprint
 pub mod Key
 pub mod KeyOrder
-pub mod KindOf
+pub mod KindRelation
 pub mod Kinds
 pub mod Layout
 pub mod Names

@@ -2,7 +2,7 @@
 ghost use Rattle.std.specs.Prelude.{◌≡◌, is_none, option_map, unwrap_or, option_and_then, Some, None};
 ghost use Rattle.med_base.specs.Classify.{key_of, meta_of, pair_of, backup_kind, node_kind, entry_kind, latest_kind, index_kind, kind_below, kind_of, is_component};
 ghost use Rattle.med_base.specs.Kinds.{as_data, Other};
-ghost use Rattle.med_base.specs.KindOf.{IsOfKind};
+ghost use Rattle.med_base.specs.KindRelation.{IsOfKind};
 ghost use Rattle.med_base.specs.Names.{fqdn_fault, backup_fault};
 ghost use Rattle.med_base.specs.Prefix.{parts};
 

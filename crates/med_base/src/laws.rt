@@ -1,5 +1,5 @@
 // What the builders and `classify` say of each other.
-ghost use Rattle.med_base.specs.KindOf.{KindsAreTold, BuiltIsTold, PathsAreApart};
+ghost use Rattle.med_base.specs.KindRelation.{KindsAreTold, BuiltIsTold, PathsAreApart};
 ghost use Rattle.med_base.specs.Part.{OwnersAreTold};
 
 /// A law: each path is of exactly one kind, `kind_of` tells it, and the kind of the path that a

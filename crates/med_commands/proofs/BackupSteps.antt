@@ -9,7 +9,7 @@ use Rattle.med_manifest.specs.declared.manifest.FileRecord.{FileRecord}
 use Rattle.med_manifest.specs.Manifest.{IsManifest}
 use Rattle.med_manifest.specs.Written.{manifest_text}
 use Rattle.med_base.specs.Content.{Content}
-use Rattle.med_outside.specs.Causes.{Rose}
+use Rattle.med_outside.specs.Causes.{RoseOrFull}
 use Rattle.med_outside.specs.Effects.{after_all}
 use Rattle.med_outside.specs.Ends.{Device, Files, Nodes, Storage, Output, Memory, StopsAt, Steps, Ends, seen}
 use Rattle.med_outside.specs.Snapshot.{Snapshot}
@@ -17,11 +17,11 @@ use Rattle.med_outside.proofs.EndsLemmas.{stops}
 use Rattle.med_outside.specs.World.{FileContents, World, IsLater, rose_of, rose_of_node, rose_of_output}
 use Rattle.med_outside.specs.declared.mode.Mode.TheVariants.{Full}
 use Rattle.med_words.specs.Request.{Action, Asked, backup}
-use Rattle.med_backup.specs.Answers.{IsMade}
-use Rattle.med_backup.specs.Backup.{IsFinished, IsBackupOf}
+use Rattle.med_backup.specs.BackedUp.{IsBackedUpFrom}
+use Rattle.med_backup.specs.Backup.{FinishesBackup, IsBackupOf}
 use Rattle.med_backup.specs.Copies.{Copy, key_of, records_of, backup_puts, AreOf}
 use Rattle.med_backup.specs.Plan.{Passed, stop_of as stop_of_error}
-use Rattle.med_backup.specs.Site.{Site, opened_at, snap_at}
+use Rattle.med_backup.specs.NodeConfig.{NodeConfig, opened_at, snap_at}
 use Rattle.med_backup.specs.declared.look.BackupError.{BackupError}
 use Rattle.med_backup.specs.declared.look.BackupError.TheVariants as error
 use Rattle.med_backup.specs.declared.place.CopyFault.TheVariants as copy
@@ -29,7 +29,7 @@ use Rattle.med_backup.proofs.Finished.{finished, backup_of}
 use Rattle.med_commands.specs.Fault.{stop_of, fault_for, fault_of_load}
 use Rattle.med_commands.specs.Headline.{End, says}
 use Rattle.med_commands.specs.Loaded.{BlamesLoad}
-use Rattle.med_commands.specs.Plans.{on_files, on_output, ReadsSite, IfTold, IsDone, prints, backup_plan, action_plan, plan_of}
+use Rattle.med_commands.specs.Plans.{on_files, on_output, ReadsConfig, IfTold, IsDone, prints, backup_plan, action_plan, plan_of}
 use Rattle.med_commands.specs.Printed.{Wrote, WrotePart}
 use Rattle.med_commands.specs.declared.fault.Fault.{Fault}
 use Rattle.med_commands.specs.declared.load.LoadError.{LoadError}
@@ -44,11 +44,11 @@ told_finished : (before f n schema : List ℕ) (at end : ℕ) (copies : List Cop
     → AreRising (map key_of copies) → AllByRecursion IsKey (map key_of copies)
     → IsManifest before f n (manifest_text (records_of before f n copies))
     (records_of before f n copies)
-    → IfTold told after (λ c d. IsFinished before f n c d (records_of before f n copies))
+    → IfTold told after (λ c d. FinishesBackup before f n c d (records_of before f n copies))
 told_finished before f n schema at end copies None after is free rising names manifest = tt
 told_finished before f n schema at end copies (Some c) after is free rising names manifest =
     subst (λ (t : Option Content). IfTold (Some c) t
-    (λ c d. IsFinished before f n c d (records_of before f n copies))) (sym is)
+    (λ c d. FinishesBackup before f n c d (records_of before f n copies))) (sym is)
     (finished before f n schema at end c free copies rising names manifest)
 
 told_backup : (before f n schema : List ℕ) (at end : ℕ) (copies : List Copy)
@@ -86,12 +86,12 @@ and_told : {A : Type 0} (held : Option A) (P Q : A → Type 0) → ((s : A) → 
 and_told None P Q f h = tt
 and_told (Some s) P Q f h = f s h
 
-pub done_of : (site : Site) (n : List ℕ) (a b : World) (files : List FileRecord)
-    → IsMade site.before site.node n (snap_at a.nodes.snaps site n) (opened_at site a.store)
+pub done_of : (node_config : NodeConfig) (n : List ℕ) (a b : World) (files : List FileRecord)
+    → IsBackedUpFrom node_config.before node_config.node n (snap_at a.nodes.snaps node_config n) (opened_at node_config a.store)
     b.store a.stood b.stood files
-    → IsDone site n a b files
-done_of site n a b files m =
-    let held = snap_at a.nodes.snaps site n in
+    → IsDone node_config n a b files
+done_of node_config n a b files m =
+    let held = snap_at a.nodes.snaps node_config n in
     let old = a.store in
     let new = b.store in
     let copies = m.copied.copies in
@@ -99,24 +99,24 @@ done_of site n a b files m =
     m.found.can.rising in
     let names : AllByRecursion IsKey (map key_of copies) = subst (AllByRecursion IsKey)
     (sym m.copied.keys_are) m.found.can.names in
-    let manifest : IsManifest site.before site.node n
-    (manifest_text (records_of site.before site.node n copies))
-    (records_of site.before site.node n copies) =
-    subst (λ (fs : List FileRecord). IsManifest site.before site.node n (manifest_text fs) fs)
+    let manifest : IsManifest node_config.before node_config.node n
+    (manifest_text (records_of node_config.before node_config.node n copies))
+    (records_of node_config.before node_config.node n copies) =
+    subst (λ (fs : List FileRecord). IsManifest node_config.before node_config.node n (manifest_text fs) fs)
     m.copied.files_are m.copied.manifest_is in
     let keys_are : IfSome held (λ s. map key_of copies ≡ keys s.files) = and_told held
     (λ s. m.order ≡ keys s.files) (λ s. map key_of copies ≡ keys s.files)
     (λ s e. m.copied.keys_are ∙ e) m.found.can.keys_are in
     record {
       finished = subst (λ (fs : List FileRecord). IfTold old.content new.content
-          (λ c d. IsFinished site.before site.node n c d fs)) (sym m.copied.files_are)
-          (told_finished site.before site.node n m.schema m.copied.at m.copied.end copies
+          (λ c d. FinishesBackup node_config.before node_config.node n c d fs)) (sym m.copied.files_are)
+          (told_finished node_config.before node_config.node n m.schema m.copied.at m.copied.end copies
           old.content new.content
           m.copied.moves.passes.content m.found.was_free rising names manifest);
       backup = subst (λ (fs : List FileRecord). IfTold old.content new.content
-          (λ c d. IfSome held (λ s. IsBackupOf site.before site.node n s c d fs)))
+          (λ c d. IfSome held (λ s. IsBackupOf node_config.before node_config.node n s c d fs)))
           (sym m.copied.files_are)
-          (told_backup site.before site.node n m.schema m.copied.at m.copied.end copies held
+          (told_backup node_config.before node_config.node n m.schema m.copied.at m.copied.end copies held
           old.content new.content
           m.copied.moves.passes.content m.found.was_free rising names manifest m.copied.bytes_are
           keys_are m.found.can.schema_is);
@@ -129,9 +129,9 @@ done_of site n a b files m =
 
 -- why the site wasn't read
 pub load_stop : (files : FileContents) (asked : Asked) (rose : Device → Type 0) (before now : ℕ)
-    → (Rose before now → rose Files) → rose Memory → (e : LoadError)
+    → (RoseOrFull before now → rose Files) → rose Memory → (e : LoadError)
     → BlamesLoad files asked before now e
-    → StopsAt rose (ReadsSite files asked) on_files (stop_of (fault_of_load e))
+    → StopsAt rose (ReadsConfig files asked) on_files (stop_of (fault_of_load e))
 load_stop files asked rose before now up memory (load.Refused fault) h = (fault, h, refl)
 load_stop files asked rose before now up memory load.Read h = (inl refl, up h)
 load_stop files asked rose before now up memory load.Memory h = (inr (inl refl), memory)

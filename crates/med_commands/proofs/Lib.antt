@@ -1,3 +1,3 @@
 pub mod BackupSteps
-pub mod OneSite
+pub mod OneNodeConfig
 pub mod Printing

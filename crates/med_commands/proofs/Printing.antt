@@ -3,7 +3,7 @@ use Rattle.std.proofs.Common.{◌≡◌, ◌<◌, ◌≤◌, ◌+◌, ◌-◌, �
 use Rattle.std.specs.Prelude.{option_map, codes}
 use Rattle.std.specs.List.{concat}
 use Rattle.std.specs.Borrow.{Bor}
-use Rattle.med_outside.specs.Causes.{Rose}
+use Rattle.med_outside.specs.Causes.{RoseOrFull}
 use Rattle.std.proofs.lemmas.List.{take-append-le}
 use Rattle.std.proofs.Math.Seq.{take-append-add, take-length}
 use Rattle.med_commands.specs.Printed.{Wrote, WrotePart, complaint}
@@ -78,8 +78,8 @@ wrote_more ps i d old mid new lt told wrote = rw (shown_more ps i d lt)
     (wrote_on _ _ old mid new told wrote)
 
 -- the count after a snapshot that failed was given up
-pub read_summed : (before mid fresh snap new : ℕ) → before ≤ mid → fresh ≡ 0 → Rose fresh snap
-    → new ≡ min (mid + snap) (2 ^ 64 - 1) → Rose before new
+pub read_summed : (before mid fresh snap new : ℕ) → before ≤ mid → fresh ≡ 0 → RoseOrFull fresh snap
+    → new ≡ min (mid + snap) (2 ^ 64 - 1) → RoseOrFull before new
 read_summed before mid fresh snap new later zero_is rose sum = omega arith
 
 -- the pieces that tell of a taken name are its text

@@ -5,7 +5,7 @@ use Rattle.med_ini.specs.Grammar.{IsIni, FaultOn}
 use Rattle.med_ini.specs.Options.{Fault, missing, bad_number, bad_name, unsupported, IsConfig, config_fault, bucket_over, prefix_over, fqdn_over}
 use Rattle.med_ini.specs.declared.config.Config.{Config}
 use Rattle.med_ini.specs.declared.overrides.Overrides.{Overrides}
-use Rattle.med_outside.specs.Causes.{Rose}
+use Rattle.med_outside.specs.Causes.{RoseOrFull}
 use Rattle.med_outside.specs.World.{FileContents}
 use Rattle.med_words.specs.Request.{Asked}
 use Rattle.med_commands.specs.Texts.{no_file_text, line_text, missing_text, bad_number_text, bad_name_text, provider_text}
@@ -83,5 +83,5 @@ BlamesReading over bytes Memory = Unit {0}
 -- the same of the config file; the count of the files rose where it wasn't read
 abbrev pub BlamesLoad : FileContents → Asked → (before now : ℕ) → LoadError → Type 0
 BlamesLoad files asked before now (Refused fault) = IsRefused files asked fault
-BlamesLoad files asked before now Read = Rose before now
+BlamesLoad files asked before now Read = RoseOrFull before now
 BlamesLoad files asked before now Memory = Unit {0}

@@ -2,17 +2,17 @@
 -- where the command ends there.
 use Rattle.std.specs.Prelude.{◌≡◌, ◌⊎◌, ℕ, List, [], ◌∷◌, Option, Some, None, IfSome, Result, Ok, Err}
 use Rattle.med_base.specs.Content.{Content}
-use Rattle.med_backup.specs.Backup.{IsFinished, IsBackupOf}
+use Rattle.med_backup.specs.Backup.{FinishesBackup, IsBackupOf}
 use Rattle.med_backup.specs.Plan.{Passed, Left, LeavesNode, node_plan}
-use Rattle.med_backup.specs.Answers.{IsMade}
-use Rattle.med_backup.specs.Site.{Site, site_of, opened_at, snap_at}
+use Rattle.med_backup.specs.BackedUp.{IsBackedUpFrom}
+use Rattle.med_backup.specs.NodeConfig.{NodeConfig, node_config_of, opened_at, snap_at}
 use Rattle.med_backup.specs.Taken.{IsFree}
 use Rattle.med_backup.specs.Walked.{CanBeWalked}
 use Rattle.med_ini.specs.declared.config.Config.{Config}
 use Rattle.med_manifest.specs.declared.manifest.FileRecord.{FileRecord}
 use Rattle.med_outside.specs.Ends.{Device, Files, Output, Memory, Refusal, BadWords, NotBuilt, BadConfig, Plan, last, step, then, said_as}
 use Rattle.med_outside.specs.Snapshot.{Snapshot}
-use Rattle.med_outside.specs.State.{State, Moves}
+use Rattle.med_outside.specs.State.{State, ChangesWithin}
 use Rattle.med_outside.specs.World.{FileContents, World}
 use Rattle.med_outside.specs.declared.mode.Mode.TheVariants.{Full}
 use Rattle.med_words.specs.Blames.{BlamesWords}
@@ -39,12 +39,12 @@ on_memory = Memory ∷ []
 -- ---- what steps answer
 
 -- where the command works; or the config file is absent or refused, which is told
-abbrev pub ReadsSite : FileContents → Asked → Result Site Refusal → Type 0
-ReadsSite files asked (Ok site) =
-    (config : Config) × IsConfigured files asked config × (site ≡ site_of config)
-ReadsSite files asked (Err (BadConfig text)) =
+abbrev pub ReadsConfig : FileContents → Asked → Result NodeConfig Refusal → Type 0
+ReadsConfig files asked (Ok node_config) =
+    (config : Config) × IsConfigured files asked config × (node_config ≡ node_config_of config)
+ReadsConfig files asked (Err (BadConfig text)) =
     (fault : ConfigFault) × IsRefused files asked fault × (text ≡ config_text fault)
-ReadsSite files asked (Err f) = ⊥
+ReadsConfig files asked (Err f) = ⊥
 
 -- what the words ask for; or they ask for nothing, which is told
 abbrev pub ReadsWords : List (List ℕ) → Result Asked Refusal → Type 0
@@ -62,7 +62,7 @@ IsSilent a b = b.out ≡ a.out
 
 -- neither the storage nor the nodes were asked anything, and nothing was printed
 abbrev pub IsUntouched : World → World → Type 0
-IsUntouched a b = Moves [] a.store b.store a.stood b.stood × (b.nodes ≡ a.nodes) × IsSilent a b
+IsUntouched a b = ChangesWithin [] a.store b.store a.stood b.stood × (b.nodes ≡ a.nodes) × IsSilent a b
 
 -- nothing was asked at all
 abbrev pub IsUnasked : World → World → Type 0
@@ -75,16 +75,16 @@ IfTold old new P = IfSome old (λ c. IfSome new (λ d. P c d))
 -- The backup of the name is finished and whole and is one of the snapshot, whose keys are names of
 -- files; the name was free, and nothing else changed. Exactly its puts were made, in the bucket of
 -- the site, which was opened for it.
-pub record IsDone (site : Site) (n : List ℕ) (a b : World) (files : List FileRecord) : Type 0 where
+pub record IsDone (node_config : NodeConfig) (n : List ℕ) (a b : World) (files : List FileRecord) : Type 0 where
   pub finished : IfTold a.store.content b.store.content
-      (λ c d. IsFinished site.before site.node n c d files)
+      (λ c d. FinishesBackup node_config.before node_config.node n c d files)
   pub backup : IfTold a.store.content b.store.content
-      (λ c d. IfSome (snap_at a.nodes.snaps site n)
-      (λ s. IsBackupOf site.before site.node n s c d files))
-  pub walked : IfSome (snap_at a.nodes.snaps site n) CanBeWalked
-  pub was_free : IsFree site.before site.node n a.store.content
-  pub made : IsMade site.before site.node n (snap_at a.nodes.snaps site n)
-      (opened_at site a.store) b.store a.stood b.stood files
+      (λ c d. IfSome (snap_at a.nodes.snaps node_config n)
+      (λ s. IsBackupOf node_config.before node_config.node n s c d files))
+  pub walked : IfSome (snap_at a.nodes.snaps node_config n) CanBeWalked
+  pub was_free : IsFree node_config.before node_config.node n a.store.content
+  pub made : IsBackedUpFrom node_config.before node_config.node n (snap_at a.nodes.snaps node_config n)
+      (opened_at node_config a.store) b.store a.stood b.stood files
 
 -- ---- plans
 
@@ -97,10 +97,10 @@ prints line done a b =
 -- the full backup of a node
 abbrev pub backup_plan : Asked → List ℕ → (a b : World) → Plan (Type 0) (Unit {0})
 backup_plan asked n a b =
-    step (ReadsSite a.files.contents asked) on_files (IsUntouched a b) (λ site.
-    then (said_as (λ (left : Left). LeavesNode site n a.nodes b.nodes a.store b.store a.stood b.stood
-    left × IsSilent a b) (node_plan site n a.nodes.snaps a.store.content)) (λ files.
-    prints (report_line n site.node files) (IsDone site n a b files) a b))
+    step (ReadsConfig a.files.contents asked) on_files (IsUntouched a b) (λ node_config.
+    then (said_as (λ (left : Left). LeavesNode node_config n a.nodes b.nodes a.store b.store a.stood b.stood
+    left × IsSilent a b) (node_plan node_config n a.nodes.snaps a.store.content)) (λ files.
+    prints (report_line n node_config.node files) (IsDone node_config n a b files) a b))
 
 -- a command that isn't built yet
 abbrev pub unbuilt_plan : List ℕ → (a b : World) → Plan (Type 0) (Unit {0})

@@ -1,6 +1,6 @@
 -- What a sink has taken of a text.
 use Rattle.std.specs.Prelude.{◌≡◌, ◌⊎◌, ◌<◌, ℕ, List, ◌++◌, take, length, Option, option_map, Result, MatchResult, codes}
-use Rattle.med_outside.specs.Causes.{Rose}
+use Rattle.med_outside.specs.Causes.{RoseOrFull}
 
 -- all of it
 abbrev pub Wrote : List ℕ → Option (List ℕ) → Option (List ℕ) → Type 0
@@ -23,4 +23,4 @@ complaint text = codes "medusa: " ++ (text ++ codes "\n")
 -- the line was written whole, or in part where the sink's count of faults rose
 abbrev pub Complains : List ℕ → Option (List ℕ) → Option (List ℕ) → ℕ → ℕ → Type 0
 Complains text old new before now =
-    Wrote (complaint text) old new ⊎ (WrotePart (complaint text) old new × Rose before now)
+    Wrote (complaint text) old new ⊎ (WrotePart (complaint text) old new × RoseOrFull before now)

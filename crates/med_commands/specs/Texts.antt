@@ -1,6 +1,6 @@
 -- The texts of refusals.
 use Rattle.std.specs.Prelude.{ℕ, List, ◌++◌, codes, decimal}
-use Rattle.med_backup.specs.Site.{tag_of}
+use Rattle.med_backup.specs.NodeConfig.{tag_of}
 use Rattle.med_ini.specs.Texts.{kind_text}
 use Rattle.med_ini.specs.declared.errors.IniKind.{IniKind}
 use Rattle.med_words.specs.declared.request.Usage.{Usage}

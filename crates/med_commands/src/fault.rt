@@ -1,14 +1,14 @@
 // The faults of a command, and their texts, which take no memory to print.
 ghost use Rattle.std.specs.Prelude.{◌≡◌, ◌≤◌, OnErr};
-ghost use Rattle.med_outside.specs.Causes.{Rose};
+ghost use Rattle.med_outside.specs.Causes.{RoseOrFull};
 ghost use Rattle.med_commands.specs.Fault.{fault_text, fault_for, fault_of_load, status_of_fault};
 ghost use Rattle.med_commands.specs.Texts.{usage_text, taken_text, no_snapshot_text, bad_file_text};
 ghost use Rattle.med_commands.specs.Printed.{Prints, Complains, complaint};
 
 use crate::Status;
-use crate::config_fault::say_config;
 use crate::load::{ConfigFault, LoadError};
 use crate::print::{say, say_named, write_pieces};
+use crate::print_config::say_config;
 use itoa::Buffer;
 use med_backup::{BackupError, CopyFault};
 use med_base::{BackupName, ObjPath};
@@ -82,7 +82,7 @@ fn say_usage<E: Sink>(err: &mut E, usage: &Usage) -> Result<(), SinkFailed>
     ensures text { Prints (complaint (usage_text usage.now)) (E.state err.old).taken (E.state err.new).taken
         result }
     ensures later { (E.state err.old).faults ≤ (E.state err.new).faults }
-    ensures failed { OnErr result (Rose (E.state err.old).faults (E.state err.new).faults) }
+    ensures failed { OnErr result (RoseOrFull (E.state err.old).faults (E.state err.new).faults) }
 {
     match usage {
         Usage::Line => say(err, b"usage: medusa [options] command [options]"),
@@ -94,7 +94,7 @@ fn say_taken<E: Sink>(err: &mut E, name: &str, path: &str) -> Result<(), SinkFai
     ensures text { Prints (complaint (taken_text name.now path.now)) (E.state err.old).taken
         (E.state err.new).taken result }
     ensures later { (E.state err.old).faults ≤ (E.state err.new).faults }
-    ensures failed { OnErr result (Rose (E.state err.old).faults (E.state err.new).faults) }
+    ensures failed { OnErr result (RoseOrFull (E.state err.old).faults (E.state err.new).faults) }
 {
     write_pieces(
         err,
@@ -112,7 +112,7 @@ fn say_no_snapshot<E: Sink>(err: &mut E, name: &str) -> Result<(), SinkFailed>
     ensures text { Prints (complaint (no_snapshot_text name.now)) (E.state err.old).taken
         (E.state err.new).taken result }
     ensures later { (E.state err.old).faults ≤ (E.state err.new).faults }
-    ensures failed { OnErr result (Rose (E.state err.old).faults (E.state err.new).faults) }
+    ensures failed { OnErr result (RoseOrFull (E.state err.old).faults (E.state err.new).faults) }
 {
     write_pieces(
         err,
@@ -128,7 +128,7 @@ fn say_bad_file<E: Sink>(err: &mut E, at: usize) -> Result<(), SinkFailed>
     ensures text { Prints (complaint (bad_file_text at)) (E.state err.old).taken (E.state err.new).taken
         result }
     ensures later { (E.state err.old).faults ≤ (E.state err.new).faults }
-    ensures failed { OnErr result (Rose (E.state err.old).faults (E.state err.new).faults) }
+    ensures failed { OnErr result (RoseOrFull (E.state err.old).faults (E.state err.new).faults) }
 {
     let mut buffer = Buffer::new();
     let place = buffer.format(at as u64);
@@ -146,7 +146,7 @@ fn say_fault<E: Sink>(err: &mut E, fault: &Fault) -> Result<(), SinkFailed>
     ensures text { Prints (complaint (fault_text fault.now)) (E.state err.old).taken (E.state err.new).taken
         result }
     ensures later { (E.state err.old).faults ≤ (E.state err.new).faults }
-    ensures failed { OnErr result (Rose (E.state err.old).faults (E.state err.new).faults) }
+    ensures failed { OnErr result (RoseOrFull (E.state err.old).faults (E.state err.new).faults) }
 {
     match fault {
         Fault::Usage(usage) => say_usage(err, usage),

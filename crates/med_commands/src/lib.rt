@@ -6,11 +6,11 @@
 #![tactic(auto)]
 
 mod backup;
-mod config_fault;
 mod fault;
 mod load;
 mod main_call;
 mod print;
+mod print_config;
 mod report;
 mod status;
 

@@ -1,5 +1,5 @@
 // Files that are read and written whole.
-use crate::count::is_absent;
+use crate::faults::is_absent;
 use crate::paths::parent_of;
 use crate::seconds::{modified_second, moment_of};
 use std::alloc::Global;

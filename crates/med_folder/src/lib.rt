@@ -4,22 +4,22 @@
 //! The objects meet the traits of med_outside and tell nothing of what they hold: no clause can say
 //! what a file holds. Each call that can answer `Failed` asks the file system and hands the outcome
 //! to `counted`, so that every refusal has a count that rose.
-//! Read `specs/Untold.antt`, then `src/count.rt` and `src/store.rt`.
+//! Read `specs/Untold.antt`, then `src/faults.rt` and `src/store.rt`.
 #![tactic(auto)]
 
-mod count;
+mod faults;
 mod files;
-mod named;
 mod nodes;
 mod paths;
+mod real_files;
 mod seconds;
 mod sink;
 mod snap;
 mod store;
 mod walk;
 
-pub use named::RealFiles;
 pub use nodes::FolderNodes;
+pub use real_files::RealFiles;
 pub use sink::RealSink;
 pub use snap::FolderSnap;
 pub use store::FolderStore;

@@ -1,10 +1,10 @@
 // Nodes as folders.
 ghost use Rattle.std.specs.Prelude.{◌≡◌, [], IfOk};
 ghost use Rattle.med_outside.specs.Counts.{tagged};
-ghost use Rattle.med_folder.specs.Untold.{nodes_edge, untold_nodes};
+ghost use Rattle.med_folder.specs.Untold.{folder_nodes_state, untold_nodes};
 
 use crate::FolderSnap;
-use crate::count::counted;
+use crate::faults::counted;
 use crate::snap::open_snap;
 use med_base::Fqdn;
 use med_outside::{Denied, Nodes, OpenedFor};
@@ -24,17 +24,17 @@ pub struct FolderNodes<R> {
 }
 
 impl<R> Model for FolderNodes<R> {
-    ghost use Rattle.med_folder.specs.Untold.{NodesEdge, nodes_edge};
+    ghost use Rattle.med_folder.specs.Untold.{FolderNodesState, folder_nodes_state};
 
-    ghost Value = { NodesEdge };
+    ghost Value = { FolderNodesState };
 
-    ghost view = { λ s. nodes_edge s.faults s.opened s.closed s.last };
+    ghost view = { λ s. folder_nodes_state s.faults s.opened s.closed s.last };
 }
 
 impl<R> FolderNodes<R> {
     /// Nodes without a fault, of which no snapshot was opened.
     pub fn new(alloc: Global, rt: R) -> FolderNodes<R>
-        ensures { result ≡ nodes_edge 0 0 0 (tagged [] [] []) }
+        ensures { result ≡ folder_nodes_state 0 0 0 (tagged [] [] []) }
     {
         FolderNodes {
             rt,

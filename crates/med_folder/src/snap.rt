@@ -2,11 +2,11 @@
 ghost use Rattle.std.specs.Prelude.{◌≡◌, ◌++◌, None, true, IfOk, OnOk, map, string_bytes};
 ghost use Rattle.std.specs.List.{list_all};
 ghost use Rattle.med_base.specs.Prefix.{parts};
-ghost use Rattle.med_outside.specs.Snapshot.{raw_name};
+ghost use Rattle.med_outside.specs.Snapshot.{key_of_raw};
 ghost use Rattle.med_folder.specs.Place.{is_name};
 ghost use Rattle.med_folder.specs.Snapshots.{table_folder, file_path, key_of, keys_for};
 
-use crate::count::{counted, is_absent};
+use crate::faults::{counted, is_absent};
 use crate::files::{is_plain_way, read_plain};
 use crate::paths::{has_plain_parts, is_name, joined, parent_of};
 use med_base::FileKey;
@@ -105,7 +105,7 @@ fn names_in<R: Files + AllocGlobal + Clone + Drop>(
 }
 
 fn raw_key(alloc: Global, keyspace: &str, table: &str, file: &str) -> Result<RawKey, AllocError>
-    ensures { IfOk result (λ key. raw_name key ≡ key_of keyspace.now table.now file.now) }
+    ensures { IfOk result (λ key. key_of_raw key ≡ key_of keyspace.now table.now file.now) }
 {
     let keyspace = String::from_str(alloc, keyspace)?;
     let table = String::from_str(alloc, table)?;
@@ -124,7 +124,7 @@ fn push_keys(
     files: &Vec<String>,
     keys: &mut Vec<RawKey>,
 ) -> Result<(), AllocError>
-    ensures { OnOk result (map raw_name keys.new.items ≡ map raw_name keys.old.items
+    ensures { OnOk result (map key_of_raw keys.new.items ≡ map key_of_raw keys.old.items
         ++ keys_for keyspace.now table.now (map string_bytes files.now.items)) }
 {
     for file in files {

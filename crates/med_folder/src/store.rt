@@ -2,13 +2,13 @@
 ghost use Rattle.std.specs.Prelude.{◌≡◌, [], true, IfOk, IfSome, IsErrOf, OnOk, string_bytes};
 ghost use Rattle.med_outside.specs.declared.denied.Denied.TheVariants.{Failed, Memory};
 ghost use Rattle.med_outside.specs.Causes.{HasCause};
-ghost use Rattle.med_outside.specs.State.{Looks, terms_of};
+ghost use Rattle.med_outside.specs.State.{OnlyReads, bucket_of};
 ghost use Rattle.med_outside.specs.Storage.{Put, MayPut, listing};
 ghost use Rattle.med_folder.specs.Listing.{AreShown, AreInOrder};
 ghost use Rattle.med_folder.specs.Place.{bucket_folder, is_object_path};
 ghost use Rattle.med_folder.specs.Untold.{untold, never};
 
-use crate::count::{counted, is_absent};
+use crate::faults::{counted, is_absent};
 use crate::files::{check_folder, is_plain_way, make_folders, move_in, sync_way, write_anew};
 use crate::paths::{UNFINISHED, UPLOAD, is_object_path, joined, parent_of};
 use crate::seconds::second_or;
@@ -38,15 +38,15 @@ pub struct FolderStore<R> {
 
 impl<R> Model for FolderStore<R> {
     ghost use Rattle.std.specs.Prelude.{◌≡◌, ◌⊎◌, [], string_bytes};
-    ghost use Rattle.med_outside.specs.State.{terms_of};
+    ghost use Rattle.med_outside.specs.State.{bucket_of};
     ghost use Rattle.med_folder.specs.Place.{bucket_folder};
-    ghost use Rattle.med_folder.specs.Untold.{Edge};
+    ghost use Rattle.med_folder.specs.Untold.{FolderState};
 
-    ghost Value = { Edge };
+    ghost Value = { FolderState };
 
     ghost view = { λ s. record {
       faults = s.faults;
-      terms = terms_of (string_bytes s.base) (string_bytes s.bucket) s.layout s.opens;
+      bucket = bucket_of (string_bytes s.base) (string_bytes s.bucket) s.layout s.opens;
     } };
 
     // The folder is that of the bucket that is open, or none is open.
@@ -57,7 +57,7 @@ impl<R> Model for FolderStore<R> {
 impl<R> FolderStore<R> {
     /// A store that isn't open yet: until then each put and listing is a fault. It takes no memory.
     pub fn new(alloc: Global, rt: R) -> FolderStore<R>
-        ensures { result ≡ record { faults = 0; terms = terms_of [] [] [] 0 } }
+        ensures { result ≡ record { faults = 0; bucket = bucket_of [] [] [] 0 } }
     {
         FolderStore {
             rt,
@@ -157,7 +157,7 @@ impl<R: Files + Clock + AllocGlobal + Clone + Drop> Storage for FolderStore<R> {
         ensures failed { IsErrOf result Denied.Failed
             → MayPut path.now bytes.now (untold self.old) (untold self.new) never never }
         ensures memory { IsErrOf result Denied.Memory
-            → Looks (untold self.old) (untold self.new) never never }
+            → OnlyReads (untold self.old) (untold self.new) never never }
         ensures cause { HasCause self.old.faults self.new.faults result }
         ensures place { OnOk result (is_object_path path.now ≡ true) }
     {
@@ -173,7 +173,7 @@ impl<R: Files + Clock + AllocGlobal + Clone + Drop> Storage for FolderStore<R> {
         ensures entries { IfOk result
             (λ entries. IfSome (untold self.old).content
             (λ c. entries.items ≡ listing under.now c)) }
-        ensures looks { Looks (untold self.old) (untold self.new) never never }
+        ensures looks { OnlyReads (untold self.old) (untold self.new) never never }
         ensures cause { HasCause self.old.faults self.new.faults result }
         ensures shown { IfOk result (λ entries. AreShown under.now entries.items) }
         ensures order { IfOk result (λ entries. AreInOrder entries.items) }

@@ -6,7 +6,7 @@ ghost use Rattle.med_base.specs.Content.{is_under};
 ghost use Rattle.med_folder.specs.Listing.{is_shown, AreShown, AreInOrder};
 ghost use Rattle.med_folder.specs.Place.{is_unfinished};
 
-use crate::count::is_absent;
+use crate::faults::is_absent;
 use crate::files::{check_folder, is_plain_way};
 use crate::paths::{is_object_path, is_unfinished, joined, parent_of};
 use crate::seconds::modified_second;

@@ -4,7 +4,7 @@ use Rattle.std.specs.Prelude.{if◌then◌else◌}
 use Rattle.med_base.specs.declared.key.FileKey.{FileKey}
 use Rattle.med_base.specs.Classify.{kind_of}
 use Rattle.med_base.specs.Key.{IsKey}
-use Rattle.med_base.specs.KindOf.{IsOfKind}
+use Rattle.med_base.specs.KindRelation.{IsOfKind}
 use Rattle.med_base.specs.Kinds.{Kind, Shared, Own, Meta, Entry, Latest, Stray, Other, IsFqdn, IsBackupName, IsBuilt}
 use Rattle.med_base.specs.Layout.{shared_path, own_path}
 use Rattle.med_base.proofs.Bools.{both, same_bytes, bytes_same}

@@ -13,10 +13,10 @@ each_true true true c e = (refl, refl, e)
 each_true true false c e = absurd (cc)
 each_true false b c e = absurd (cc)
 
-past : (b : Bool) (s : Snapshot) (o p : Option Snapshot)
+stood_before : (b : Bool) (s : Snapshot) (o p : Option Snapshot)
     → cond b (Some s) (option_or o p) ≡ option_or (cond b (Some s) o) p
-past true s o p = refl
-past false s o p = refl
+stood_before true s o p = refl
+stood_before false s o p = refl
 
 nothing_more : (o : Option Snapshot) → option_or o None ≡ o
 nothing_more None = refl
@@ -54,7 +54,7 @@ module _ (root node tag : List ℕ) where
   first_more [] g = refl
   first_more (h ∷ gs) g =
       ap (λ o. cond (is_for root node tag h) (Some (held h)) o) (first_more gs g)
-      ∙ past (is_for root node tag h) (held h) (first gs) (own g)
+      ∙ stood_before (is_for root node tag h) (held h) (first gs) (own g)
 
   -- where nothing was added before
   pub added_here : (gs : List Given) (g : Given) → IsOwn g

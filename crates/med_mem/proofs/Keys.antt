@@ -9,7 +9,7 @@ use Rattle.std.proofs.lemmas.List.Elements.{filter-append}
 use Rattle.med_base.specs.declared.key.FileKey.{FileKey}
 use Rattle.med_base.specs.Key.{key_eq}
 use Rattle.med_base.specs.KeyOrder.{key_total}
-use Rattle.med_outside.specs.Snapshot.{raw_name}
+use Rattle.med_outside.specs.Snapshot.{key_of_raw}
 use Rattle.med_mem.specs.declared.snapshot.MemFile.{MemFile}
 use Rattle.med_mem.specs.Distinct.{without, distinct}
 use Rattle.med_mem.specs.Snaps.{files_of, order_of}
@@ -46,9 +46,9 @@ module _ {K : Type 0} (E : K → K → Bool) (laws : IsEquivalence E) where
 -- the keys of one file more, unless one before it has its key
 pub keys_more : (files : List MemFile) (i : ℕ) (f : MemFile) (b : Bool)
     → i < length files → f ≡ get_or files i f
-    → b ≡ list_any (key_eq (raw_name f.key)) (keys_of (files_of (take i files)))
+    → b ≡ list_any (key_eq (key_of_raw f.key)) (keys_of (files_of (take i files)))
     → order_of (files_of (take (i + 1) files))
-    ≡ order_of (files_of (take i files)) ++ cond b [] (raw_name f.key ∷ [])
+    ≡ order_of (files_of (take i files)) ++ cond b [] (key_of_raw f.key ∷ [])
 keys_more files i f b lt is test =
     let one = take-suc files i f lt ∙ ap (λ x. take i files ++ x ∷ []) (sym is) in
     let cut : take (i + 1) files ≡ take i files ++ f ∷ [] = rw add-one one in
@@ -56,5 +56,5 @@ keys_more files i f b lt is test =
     ap (λ l. order_of (files_of l)) cut
     ∙ ap order_of (map-append _ (take i files) (f ∷ []))
     ∙ ap (distinct key_eq) (map-append _ (files_of (take i files)) (files_of (f ∷ [])))
-    ∙ distinct_more key_eq (eq_by_cmp_equiv key_total) keys (raw_name f.key)
-    ∙ ap (λ b. distinct key_eq keys ++ cond b [] (raw_name f.key ∷ [])) (sym test)
+    ∙ distinct_more key_eq (eq_by_cmp_equiv key_total) keys (key_of_raw f.key)
+    ∙ ap (λ b. distinct key_eq keys ++ cond b [] (key_of_raw f.key ∷ [])) (sym test)

@@ -2,7 +2,7 @@
 use Rattle.std.proofs.Common.{◌≡◌, ◌∙◌, ◌⊎◌, ◌<◌, ◌≤◌, ◌+◌, ℕ, List, [], ◌∷◌, ◌++◌, Some, refl, sym, ap, inl, inr, arith, append_assoc, leb-true}
 use Rattle.std.specs.Prelude.{is_some}
 use Rattle.med_outside.specs.Effects.{after_all}
-use Rattle.med_outside.specs.State.{State, Moves}
+use Rattle.med_outside.specs.State.{State, ChangesWithin}
 use Rattle.med_mem.specs.Told.{Note, content_after, ComesAfter, StoodSince, AreMadeBy}
 use Rattle.med_base.proofs.Bools.{both}
 use Rattle.med_mem.proofs.Notes.{after_more}
@@ -70,9 +70,9 @@ module _ (old new : List Note) (n : Note) (calls next : ℕ) (s0 s1 : State) whe
   pub one_change : new ≡ old ++ n ∷ [] → next ≡ calls + 1 → n.call ≡ next → AreMadeBy calls old
       → s0.content ≡ Some (content_after old) → s1.content ≡ Some (content_after new)
       → s0.step ≡ calls → s1.step ≡ next
-      → is_some s1.second ≡ is_some s0.second → s1.terms ≡ s0.terms
-      → Moves (n.effect ∷ []) s0 s1 (StoodSince old calls) (StoodSince new next)
-  one_change more one of_call by is0 is1 at0 at1 told terms = record {
+      → is_some s1.second ≡ is_some s0.second → s1.bucket ≡ s0.bucket
+      → ChangesWithin (n.effect ∷ []) s0 s1 (StoodSince old calls) (StoodSince new next)
+  one_change more one of_call by is0 is1 at0 at1 told bucket = record {
     passes = record {
       content = content_is more is0 is1;
       told = told;
@@ -109,5 +109,5 @@ module _ (old new : List Note) (n : Note) (calls next : ℕ) (s0 s1 : State) whe
         ended = later_change s.later n calls next t (omega arith) (omega arith) s.ended;
       };
     };
-    terms = terms;
+    bucket = bucket;
   }

@@ -5,7 +5,7 @@ use Rattle.med_outside.specs.Causes.{one_more}
 use Rattle.med_outside.specs.declared.denied.Denied.{Denied}
 use Rattle.med_outside.specs.declared.denied.Denied.TheVariants.{Failed, Memory}
 use Rattle.med_outside.specs.Effects.{Stores}
-use Rattle.med_outside.specs.State.{Moves, Looks, terms_of, opened}
+use Rattle.med_outside.specs.State.{ChangesWithin, OnlyReads, bucket_of, opened}
 use Rattle.med_outside.specs.Storage.{Put}
 use Rattle.med_mem.specs.Told.{Note, Told, content_of, stood_since_of, state_of}
 
@@ -21,7 +21,7 @@ with_added path bytes second m = record {
   tick = m.tick;
   calls = m.calls;
   faults = m.faults;
-  terms = m.terms;
+  bucket = m.bucket;
 }
 
 -- the content is the old one with the object
@@ -37,7 +37,7 @@ with_clock clock m = record {
   tick = m.tick;
   calls = m.calls;
   faults = m.faults;
-  terms = m.terms;
+  bucket = m.bucket;
 }
 
 -- a store without objects that no call was made of, of a bucket and a base of no name and under the
@@ -49,7 +49,7 @@ new_at clock tick = record {
   tick = tick;
   calls = 0;
   faults = 0;
-  terms = terms_of [] [] [] 0;
+  bucket = bucket_of [] [] [] 0;
 }
 
 -- no call more can be counted
@@ -71,13 +71,13 @@ pub record Counts {T : Type 0} (old new : Told) (result : Result T Denied) : Typ
 
 -- nothing changed but the number of calls and the count of faults, in the words of the trait
 abbrev pub Stays : Told → Told → Type 0
-Stays old new = Looks (state_of old) (state_of new) (stood_since_of old) (stood_since_of new)
+Stays old new = OnlyReads (state_of old) (state_of new) (stood_since_of old) (stood_since_of new)
 
--- the terms alone changed, in the same words
+-- the bucket alone changed, in the same words
 abbrev pub IsOpened : (base bucket layout : List ℕ) → Told → Told → Type 0
 IsOpened base bucket layout old new =
     let before = opened base bucket layout (state_of old) in
-    Moves [] before (state_of new) (stood_since_of old) (stood_since_of new)
+    ChangesWithin [] before (state_of new) (stood_since_of old) (stood_since_of new)
 
 -- the object was stored with that second, in the same words
 abbrev pub IsPut : (path bytes : List ℕ) (old new : Told) (second : ℕ) → Type 0

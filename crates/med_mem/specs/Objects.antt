@@ -7,7 +7,7 @@ use Rattle.std.specs.Cmp.Lexicographic.{slice_cmp}
 use Rattle.std.specs.FinMap.{entries}
 use Rattle.std.specs.FinMap.Entries.{put}
 use Rattle.med_base.specs.Content.{Object, is_under}
-use Rattle.med_outside.specs.State.{Terms}
+use Rattle.med_outside.specs.State.{OpenBucket}
 use Rattle.med_outside.specs.Storage.{entry_of}
 use Rattle.med_outside.specs.declared.storage.Entry.{Entry}
 use Rattle.med_mem.specs.Told.{Note, Told, content_after, AreMadeBy}
@@ -35,14 +35,14 @@ abbrev pub noted : List Change → List Note
 noted = map (λ (c : Change). note_of c.call c.object.path c.object.bytes.items c.object.second)
 
 -- what the fields of a store mean
-abbrev pub told_by : List Change → (clock tick calls faults : ℕ) → Terms → Told
-told_by changes clock tick calls faults terms = record {
+abbrev pub told_by : List Change → (clock tick calls faults : ℕ) → OpenBucket → Told
+told_by changes clock tick calls faults bucket = record {
   notes = noted changes;
   clock = clock;
   tick = tick;
   calls = calls;
   faults = faults;
-  terms = terms;
+  bucket = bucket;
 }
 
 -- the objects are what the changes leave, and no change was made in a later call

@@ -7,7 +7,7 @@ use Rattle.std.specs.Str.{bytes_eq}
 use Rattle.med_base.specs.declared.key.FileKey.{FileKey}
 use Rattle.med_base.specs.Key.{key_eq}
 use Rattle.med_outside.specs.Counts.{SnapshotCounts, Tagged}
-use Rattle.med_outside.specs.Snapshot.{Snapshot, raw_name}
+use Rattle.med_outside.specs.Snapshot.{Snapshot, key_of_raw}
 use Rattle.med_outside.specs.World.{NodesState}
 use Rattle.med_mem.specs.Distinct.{distinct}
 use Rattle.med_mem.specs.declared.snapshot.MemFile.{MemFile}
@@ -16,7 +16,7 @@ use Rattle.med_mem.specs.declared.nodes.Added.{Added}
 
 -- the keys, and the bytes of each
 abbrev pub files_of : List MemFile → List (FileKey × List ℕ)
-files_of = map (λ (f : MemFile). (raw_name f.key, f.bytes.items))
+files_of = map (λ (f : MemFile). (key_of_raw f.key, f.bytes.items))
 
 -- each key once, in the order of first occurrence
 abbrev pub order_of : List (FileKey × List ℕ) → List FileKey

@@ -5,7 +5,7 @@ use Rattle.std.specs.List.{list_all}
 use Rattle.std.specs.FinMap.{empty}
 use Rattle.med_base.specs.Content.{Content}
 use Rattle.med_outside.specs.Effects.{Effect, applied}
-use Rattle.med_outside.specs.State.{State, Terms}
+use Rattle.med_outside.specs.State.{State, OpenBucket, History}
 
 -- a change, and how many calls that can fail had been made by then, its own among them
 pub record Note : Type 0 where
@@ -25,7 +25,7 @@ pub record Told : Type 0 where
   -- how often a call failed
   pub faults : ℕ
   -- the bucket that is open, and its layout
-  pub terms : Terms
+  pub bucket : OpenBucket
 
 -- what these changes make of an empty content
 abbrev pub content_after : List Note → Content
@@ -50,7 +50,7 @@ pub record StoodSince (notes : List Note) (calls t : ℕ) (c : Content) : Type 0
   pub ended : ComesAfter calls t later
 
 -- the same of a store
-abbrev pub stood_since_of : Told → ℕ → Content → Type 0
+abbrev pub stood_since_of : Told → History
 stood_since_of m = StoodSince m.notes m.calls
 
 -- what the trait tells of it
@@ -60,7 +60,7 @@ state_of m = record {
   second = Some m.clock;
   faults = m.faults;
   step = m.calls;
-  terms = m.terms;
+  bucket = m.bucket;
 }
 
 -- no change was made in a later call

@@ -4,7 +4,7 @@ ghost use Rattle.std.specs.List.{list_any};
 ghost use Rattle.std.specs.Map.{keys_of};
 ghost use Rattle.std.specs.FinMap.{find, get};
 ghost use Rattle.med_base.specs.Key.{key_cmp, key_eq};
-ghost use Rattle.med_outside.specs.Snapshot.{raw_name, HasKey};
+ghost use Rattle.med_outside.specs.Snapshot.{key_of_raw, HasKey};
 ghost use Rattle.med_mem.specs.Snaps.{files_of, order_of, opened, held_by};
 ghost use Rattle.med_outside.specs.declared.denied.Denied.TheVariants.{Memory};
 
@@ -36,7 +36,7 @@ pub struct MemOpened {
 }
 
 fn copy_key(alloc: Global, key: &RawKey) -> Result<RawKey, NoMemory>
-    ensures { IfOk result (λ copy. raw_name copy ≡ raw_name key.now) }
+    ensures { IfOk result (λ copy. key_of_raw copy ≡ key_of_raw key.now) }
 {
     let keyspace = String::from_str(alloc, key.keyspace.as_str())?;
     let table = String::from_str(alloc, key.table.as_str())?;
@@ -61,7 +61,7 @@ fn copy_files(alloc: Global, files: &[MemFile]) -> Result<Vec<MemFile>, NoMemory
 }
 
 fn compare(key: &FileKey, raw: &RawKey) -> Ordering
-    ensures { result ≡ key_cmp key.now (raw_name raw.now) }
+    ensures { result ≡ key_cmp key.now (key_of_raw raw.now) }
 {
     let keyspace = key.keyspace.as_str().cmp(raw.keyspace.as_str());
     let table = key.table.as_str().cmp(raw.table.as_str());
@@ -70,7 +70,7 @@ fn compare(key: &FileKey, raw: &RawKey) -> Ordering
 }
 
 fn is_same(a: &RawKey, b: &RawKey) -> bool
-    ensures { result ≡ key_eq (raw_name a.now) (raw_name b.now) }
+    ensures { result ≡ key_eq (key_of_raw a.now) (key_of_raw b.now) }
 {
     let keyspace = a.keyspace.as_str().cmp(b.keyspace.as_str());
     let table = a.table.as_str().cmp(b.table.as_str());
@@ -79,7 +79,7 @@ fn is_same(a: &RawKey, b: &RawKey) -> bool
 }
 
 fn has_key(files: &[MemFile], key: &RawKey) -> bool
-    ensures { result ≡ list_any (key_eq (raw_name key.now)) (keys_of (files_of files.now)) }
+    ensures { result ≡ list_any (key_eq (key_of_raw key.now)) (keys_of (files_of files.now)) }
 {
     for file in files {
         if is_same(key, &file.key) {
@@ -91,7 +91,7 @@ fn has_key(files: &[MemFile], key: &RawKey) -> bool
 
 // The keys without repeats, in the order of first occurrence.
 fn list_keys(alloc: Global, files: &[MemFile]) -> Result<Vec<RawKey>, NoMemory>
-    ensures { IfOk result (λ keys. map raw_name keys.items ≡ order_of (files_of files.now)) }
+    ensures { IfOk result (λ keys. map key_of_raw keys.items ≡ order_of (files_of files.now)) }
 {
     let mut keys = Vec::new(alloc);
     for (i, file) in files.iter().enumerate() {
@@ -168,7 +168,7 @@ impl Snap for MemOpened {
     ghost listed_once = { λ s. listed_once_of s.files s.schema };
 
     fn keys(&mut self, alloc: Global) -> Result<Vec<RawKey>, Denied>
-        ensures keys { IfOk result (λ keys. map raw_name keys.items ≡ order_of self.old.files) }
+        ensures keys { IfOk result (λ keys. map key_of_raw keys.items ≡ order_of self.old.files) }
         ensures same { self.new ≡ self.old }
         ensures err { IfErr result (λ e. e ≡ Denied.Memory) }
     {

@@ -47,14 +47,14 @@ pub struct MemStore {
 
 impl Model for MemStore {
     ghost use Rattle.std.specs.Prelude.{string_bytes};
-    ghost use Rattle.med_outside.specs.State.{terms_of};
+    ghost use Rattle.med_outside.specs.State.{bucket_of};
     ghost use Rattle.med_mem.specs.Told.{Told};
     ghost use Rattle.med_mem.specs.Objects.{told_by, Tells};
 
     ghost Value = { Told };
 
     ghost view = { λ m. told_by m.changes.items m.clock m.tick m.calls m.faults
-        (terms_of (string_bytes m.bucket.base) (string_bytes m.bucket.name) m.bucket.layout
+        (bucket_of (string_bytes m.bucket.base) (string_bytes m.bucket.name) m.bucket.layout
         m.opens) };
 
     ghost invariant = { λ m. Tells m.objects.items m.changes.items m.calls };

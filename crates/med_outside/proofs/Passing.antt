@@ -2,7 +2,7 @@
 use Rattle.std.proofs.Common.{◌≡◌, inl, inr, ℕ, List, [], ◌∷◌, ◌++◌, Option, Some, None, refl, sym, ap, ◌∙◌, arith, append_assoc}
 use Rattle.med_base.specs.Content.{Content}
 use Rattle.med_outside.specs.Effects.{Effect, made, applied, after_all, IsMoment}
-use Rattle.med_outside.specs.State.{State, Terms, Passes, Moves, under_terms}
+use Rattle.med_outside.specs.State.{State, OpenBucket, Changes, ChangesWithin, with_bucket, History}
 
 pub applied-append : (xs ys : List Effect) (c : Content)
     → applied (xs ++ ys) c ≡ applied ys (applied xs c)
@@ -39,47 +39,47 @@ moment_later xs ys told mid c is m = record {
 }
 
 -- one list of changes after the other
-pub passes_on : (xs ys : List Effect) (s0 s1 s2 : State) (p0 p1 p2 : ℕ → Content → Type 0)
-    → Passes xs s0 s1 p0 p1 → Passes ys s1 s2 p1 p2 → Passes (xs ++ ys) s0 s2 p0 p2
+pub passes_on : (xs ys : List Effect) (s0 s1 s2 : State) (p0 p1 p2 : History)
+    → Changes xs s0 s1 p0 p1 → Changes ys s1 s2 p1 p2 → Changes (xs ++ ys) s0 s2 p0 p2
 passes_on xs ys s0 s1 s2 p0 p1 p2 a b = record {
   content = b.content ∙ ap (after_all ys) a.content ∙ sym (after_all-append xs ys s0.content);
   told = b.told ∙ a.told;
   later = omega (arith, a.later, b.later);
-  moments = λ t c le since. elim (b.moments t c (omega (arith, le, a.later)) since) [
+  moments = λ t c le stood_after. elim (b.moments t c (omega (arith, le, a.later)) stood_after) [
     | inl stood ↦ elim (a.moments t c le stood) [
-      | inl past ↦ inl past
+      | inl stood_before ↦ inl stood_before
       | inr m ↦ inr (moment_more xs ys s0.content c m)
     ]
     | inr m ↦ inr (moment_later xs ys s0.content s1.content c a.content m)
   ];
-  keeps = λ t c le past. b.keeps t c (omega (arith, le, a.later)) (a.keeps t c le past);
+  keeps = λ t c le stood_before. b.keeps t c (omega (arith, le, a.later)) (a.keeps t c le stood_before);
 }
 
-pub moves_on : (xs ys : List Effect) (s0 s1 s2 : State) (p0 p1 p2 : ℕ → Content → Type 0)
-    → Moves xs s0 s1 p0 p1 → Moves ys s1 s2 p1 p2 → Moves (xs ++ ys) s0 s2 p0 p2
+pub moves_on : (xs ys : List Effect) (s0 s1 s2 : State) (p0 p1 p2 : History)
+    → ChangesWithin xs s0 s1 p0 p1 → ChangesWithin ys s1 s2 p1 p2 → ChangesWithin (xs ++ ys) s0 s2 p0 p2
 moves_on xs ys s0 s1 s2 p0 p1 p2 a b = record {
   passes = passes_on xs ys s0 s1 s2 p0 p1 p2 a.passes b.passes;
-  terms = b.terms ∙ a.terms;
+  bucket = b.bucket ∙ a.bucket;
 }
 
 -- no call at all
-pub passes_at_rest : (s : State) (p : ℕ → Content → Type 0) → Passes [] s s p p
+pub passes_at_rest : (s : State) (p : History) → Changes [] s s p p
 passes_at_rest s p = record {
   content = sym (after_all-nothing s.content);
   told = refl;
   later = omega arith;
-  moments = λ t c le since. inl since;
-  keeps = λ t c le past. past;
+  moments = λ t c le stood_after. inl stood_after;
+  keeps = λ t c le stood_before. stood_before;
 }
 
-pub moves_at_rest : (s : State) (p : ℕ → Content → Type 0) → Moves [] s s p p
-moves_at_rest s p = record { passes = passes_at_rest s p; terms = refl }
+pub moves_at_rest : (s : State) (p : History) → ChangesWithin [] s s p p
+moves_at_rest s p = record { passes = passes_at_rest s p; bucket = refl }
 
--- the terms say nothing of what a call changed
-pub passes_from_terms : (terms : Terms) (xs : List Effect) (s0 s1 : State)
-    (p0 p1 : ℕ → Content → Type 0)
-    → Passes xs (under_terms terms s0) s1 p0 p1 → Passes xs s0 s1 p0 p1
-passes_from_terms terms xs s0 s1 p0 p1 a = record {
+-- the bucket says nothing of what a call changed
+pub changes_from_bucket : (bucket : OpenBucket) (xs : List Effect) (s0 s1 : State)
+    (p0 p1 : History)
+    → Changes xs (with_bucket bucket s0) s1 p0 p1 → Changes xs s0 s1 p0 p1
+changes_from_bucket bucket xs s0 s1 p0 p1 a = record {
   content = a.content;
   told = a.told;
   later = a.later;

@@ -8,10 +8,10 @@ abbrev pub one_more : ℕ → ℕ
 one_more n = min (n + 1) (2 ^ 64 - 1)
 
 -- the count rose, or stands at the last value of a 64-bit counter
-abbrev pub Rose : ℕ → ℕ → Type 0
-Rose before now = one_more before ≤ now
+abbrev pub RoseOrFull : ℕ → ℕ → Type 0
+RoseOrFull before now = one_more before ≤ now
 
 -- the count doesn't fall, and a failure is told only where it rose
 pub record HasCause {T : Type 0} (before now : ℕ) (result : Result T Denied) : Type 0 where
   pub later : before ≤ now
-  pub failed : IsErrOf result Failed → Rose before now
+  pub failed : IsErrOf result Failed → RoseOrFull before now

@@ -13,8 +13,8 @@ pub record Snapshot : Type 0 where
   pub schema : List ℕ
 
 -- a raw key as a key of files, whether or not its parts are components
-abbrev pub raw_name : RawKey → FileKey
-raw_name k = record {
+abbrev pub key_of_raw : RawKey → FileKey
+key_of_raw k = record {
   keyspace = string_bytes k.keyspace;
   table = string_bytes k.table;
   file = string_bytes k.file;

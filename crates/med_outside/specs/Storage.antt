@@ -2,7 +2,7 @@
 use Rattle.std.specs.Prelude.{◌≡◌, ◌⊎◌, ℕ, List, [], ◌∷◌, map, length, Option, IfSome}
 use Rattle.med_base.specs.Content.{Content, Object, objects_under}
 use Rattle.med_outside.specs.Effects.{Stores}
-use Rattle.med_outside.specs.State.{State, Moves, Looks}
+use Rattle.med_outside.specs.State.{State, ChangesWithin, OnlyReads, History}
 use Rattle.med_outside.specs.declared.storage.Entry.{Entry}
 
 -- a number is what is told
@@ -18,13 +18,13 @@ abbrev pub listing : List ℕ → Content → List Entry
 listing text c = map entry_of (objects_under text c)
 
 -- the object was stored, with the second that was told
-pub record Put (path bytes : List ℕ) (old new : State) (past since : ℕ → Content → Type 0)
+pub record Put (path bytes : List ℕ) (old new : State) (stood_before stood_after : History)
     (at : ℕ) : Type 0 where
-  pub moves : Moves (Stores path bytes at ∷ []) old new past since
+  pub moves : ChangesWithin (Stores path bytes at ∷ []) old new stood_before stood_after
   pub second : IsToldAs old.second at
 
 -- after a failure: nothing changed, or the object was stored
-abbrev pub MayPut : List ℕ → List ℕ → (old new : State) → (past since : ℕ → Content → Type 0)
+abbrev pub MayPut : List ℕ → List ℕ → (old new : State) → (stood_before stood_after : History)
     → Type 0
-MayPut path bytes old new past since =
-    Looks old new past since ⊎ ((at : ℕ) × Put path bytes old new past since at)
+MayPut path bytes old new stood_before stood_after =
+    OnlyReads old new stood_before stood_after ⊎ ((at : ℕ) × Put path bytes old new stood_before stood_after at)

@@ -1,11 +1,10 @@
 -- What a command meets outside, as one record: files, nodes, a storage, and the output.
 use Rattle.std.specs.Prelude.{◌≡◌, ◌≤◌, ℕ, List, Option}
-use Rattle.med_base.specs.Content.{Content}
-use Rattle.med_outside.specs.Causes.{Rose}
+use Rattle.med_outside.specs.Causes.{RoseOrFull}
 use Rattle.med_outside.specs.Counts.{SnapshotCounts}
 use Rattle.med_outside.specs.Ends.{Device, Files, Nodes, Storage, Output, Memory}
 use Rattle.med_outside.specs.Snapshot.{Snapshot}
-use Rattle.med_outside.specs.State.{State}
+use Rattle.med_outside.specs.State.{State, History}
 
 -- what files tell of each name: the bytes, or that there is no such file
 abbrev pub FileContents : Type 0
@@ -32,10 +31,6 @@ pub record SinkState : Type 0 where
   -- how often a write failed
   pub faults : ℕ
 
--- what stood at some moment since a step
-abbrev pub History : Type 1
-History = ℕ → Content → Type 0
-
 pub record World : Type 1 where
   pub files : FilesState
   pub nodes : NodesState
@@ -55,17 +50,17 @@ world files nodes store stood out = record {
 
 -- which counts of faults rose between two worlds; there may be no memory at any time
 abbrev pub rose_of : World → World → Device → Type 0
-rose_of a b Files = Rose a.files.faults b.files.faults
-rose_of a b Nodes = Rose a.nodes.faults b.nodes.faults
-rose_of a b Storage = Rose a.store.faults b.store.faults
-rose_of a b Output = Rose a.out.faults b.out.faults
+rose_of a b Files = RoseOrFull a.files.faults b.files.faults
+rose_of a b Nodes = RoseOrFull a.nodes.faults b.nodes.faults
+rose_of a b Storage = RoseOrFull a.store.faults b.store.faults
+rose_of a b Output = RoseOrFull a.out.faults b.out.faults
 rose_of a b Memory = Unit {0}
 
 -- the same of calls that ask the nodes, the storage and memory alone
 abbrev pub rose_of_node : (nodes nodes_now store store_now : ℕ) → Device → Type 0
 rose_of_node nodes nodes_now store store_now Files = ⊥
-rose_of_node nodes nodes_now store store_now Nodes = Rose nodes nodes_now
-rose_of_node nodes nodes_now store store_now Storage = Rose store store_now
+rose_of_node nodes nodes_now store store_now Nodes = RoseOrFull nodes nodes_now
+rose_of_node nodes nodes_now store store_now Storage = RoseOrFull store store_now
 rose_of_node nodes nodes_now store store_now Output = ⊥
 rose_of_node nodes nodes_now store store_now Memory = Unit {0}
 
@@ -74,7 +69,7 @@ abbrev pub rose_of_output : (out out_now : ℕ) → Device → Type 0
 rose_of_output out out_now Files = ⊥
 rose_of_output out out_now Nodes = ⊥
 rose_of_output out out_now Storage = ⊥
-rose_of_output out out_now Output = Rose out out_now
+rose_of_output out out_now Output = RoseOrFull out out_now
 rose_of_output out out_now Memory = Unit {0}
 
 -- what every call leaves: files and snapshots stay, and no count of faults falls

@@ -3,7 +3,7 @@ ghost use Rattle.std.specs.Prelude.{◌≡◌, ◌≤◌, ◌+◌, ◌-◌, ◌^
 ghost use Rattle.std.specs.FinMap as finite;
 ghost use Rattle.med_outside.specs.Causes.{HasCause};
 ghost use Rattle.med_outside.specs.Counts.{after_open, tagged, with_closed};
-ghost use Rattle.med_outside.specs.Snapshot.{Snapshot, raw_name, HasKey, IsListed};
+ghost use Rattle.med_outside.specs.Snapshot.{Snapshot, key_of_raw, HasKey, IsListed};
 ghost use Rattle.med_outside.specs.World.{NodesState};
 
 use crate::Denied;
@@ -30,7 +30,7 @@ pub trait Snap: Drop {
     /// The keys of all files without repeats, in the order that the snapshot tells.
     fn keys(&mut self, alloc: Global) -> Result<Vec<RawKey>, Denied>
         ensures keys { IfOk result
-            (λ keys. IfSome (held self.old) (λ s. map raw_name keys.items ≡ s.order)) }
+            (λ keys. IfSome (held self.old) (λ s. map key_of_raw keys.items ≡ s.order)) }
         ensures same { held self.new ≡ held self.old }
         ensures cause { HasCause (faults self.old) (faults self.new) result };
 

@@ -1,6 +1,6 @@
 // What takes the printed bytes.
 ghost use Rattle.std.specs.Prelude.{◌≡◌, ◌≤◌, ◌<◌, Ok, IfOk, OnErr, length};
-ghost use Rattle.med_outside.specs.Causes.{Rose};
+ghost use Rattle.med_outside.specs.Causes.{RoseOrFull};
 ghost use Rattle.med_outside.specs.Sink.{Takes};
 ghost use Rattle.med_outside.specs.World.{SinkState};
 
@@ -20,7 +20,7 @@ pub trait Sink {
         ensures ok { IfOk result (λ n. Takes n bytes.now (state self.old).taken (state self.new).taken) }
         ensures err { OnErr result ((state self.new).taken ≡ (state self.old).taken) }
         ensures later { (state self.old).faults ≤ (state self.new).faults }
-        ensures failed { OnErr result (Rose (state self.old).faults (state self.new).faults) }
+        ensures failed { OnErr result (RoseOrFull (state self.old).faults (state self.new).faults) }
         ensures stuck { result ≡ Ok 0 → 0 < length bytes.now
-            → Rose (state self.old).faults (state self.new).faults };
+            → RoseOrFull (state self.old).faults (state self.new).faults };
 }

@@ -3,7 +3,7 @@ ghost use Rattle.std.specs.Prelude.{◌≡◌, ◌≤◌, ℕ, [], Some, IfOk, I
 ghost use Rattle.med_base.specs.Content.{Content};
 ghost use Rattle.med_outside.specs.declared.denied.Denied.TheVariants.{Failed, Memory};
 ghost use Rattle.med_outside.specs.Causes.{HasCause};
-ghost use Rattle.med_outside.specs.State.{State, Moves, Looks, opened};
+ghost use Rattle.med_outside.specs.State.{State, ChangesWithin, OnlyReads, opened};
 ghost use Rattle.med_outside.specs.Storage.{IsToldAs, Put, MayPut, listing};
 
 use crate::Denied;
@@ -42,10 +42,10 @@ pub trait Storage: Sized {
         prefix: &Layout,
     ) -> Result<(), Denied>
         ensures ok { OnOk result
-            (Moves [] (opened base.now bucket.now prefix.now (state self.old)) (state self.new)
+            (ChangesWithin [] (opened base.now bucket.now prefix.now (state self.old)) (state self.new)
             (stood_since self.old) (stood_since self.new)) }
         ensures err { OnErr result
-            (Moves [] (state self.old) (state self.new) (stood_since self.old)
+            (ChangesWithin [] (state self.old) (state self.new) (stood_since self.old)
             (stood_since self.new)) }
         ensures second { (state self.new).second ≡ (state self.old).second }
         ensures cause { HasCause (state self.old).faults (state self.new).faults result };
@@ -54,7 +54,7 @@ pub trait Storage: Sized {
     fn now(&mut self) -> u64
         ensures value { IsToldAs (state self.old).second result }
         ensures same { state self.new ≡ state self.old }
-        ensures looks { Looks (state self.old) (state self.new) (stood_since self.old)
+        ensures looks { OnlyReads (state self.old) (state self.new) (stood_since self.old)
             (stood_since self.new) };
 
     /// Stores the bytes under the path, in place of an object that was there, with the second that
@@ -68,7 +68,7 @@ pub trait Storage: Sized {
             → MayPut path.now bytes.now (state self.old) (state self.new) (stood_since self.old)
             (stood_since self.new) }
         ensures memory { IsErrOf result Denied.Memory
-            → Looks (state self.old) (state self.new) (stood_since self.old)
+            → OnlyReads (state self.old) (state self.new) (stood_since self.old)
             (stood_since self.new) }
         ensures cause { HasCause (state self.old).faults (state self.new).faults result };
 
@@ -77,7 +77,7 @@ pub trait Storage: Sized {
         ensures entries { IfOk result
             (λ entries. IfSome (state self.old).content
             (λ c. entries.items ≡ listing under.now c)) }
-        ensures looks { Looks (state self.old) (state self.new) (stood_since self.old)
+        ensures looks { OnlyReads (state self.old) (state self.new) (stood_since self.old)
             (stood_since self.new) }
         ensures cause { HasCause (state self.old).faults (state self.new).faults result };
 

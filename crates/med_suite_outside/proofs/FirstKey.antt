@@ -9,7 +9,7 @@ use Rattle.med_base.specs.declared.key.FileKey.{FileKey}
 use Rattle.med_base.specs.Key.{key_eq}
 use Rattle.med_base.specs.KeyOrder.{key_total}
 use Rattle.med_outside.specs.declared.nodes.RawKey.{RawKey}
-use Rattle.med_outside.specs.Snapshot.{Snapshot, raw_name, HasKey, IsListed}
+use Rattle.med_outside.specs.Snapshot.{Snapshot, key_of_raw, HasKey, IsListed}
 
 module _ (E : FileKey → Bool) (k : FileKey) (ks : List FileKey) where
   counted : E k ≡ true → count_by E (k ∷ ks) ≡ 0 → ⊥
@@ -31,10 +31,10 @@ module _ (s : Snapshot) (listed : IsListed s) where
 
 -- the first key of those that it answers
 pub first_has_file : (told : Option Snapshot) (keys : List RawKey) (raw : RawKey) (key : FileKey)
-    → IfSome told IsListed → IfSome told (λ s. map raw_name keys ≡ s.order)
-    → 0 < length keys → raw ≡ get_or keys 0 raw → key ≡ raw_name raw → IfSome told (HasKey key)
+    → IfSome told IsListed → IfSome told (λ s. map key_of_raw keys ≡ s.order)
+    → 0 < length keys → raw ≡ get_or keys 0 raw → key ≡ key_of_raw raw → IfSome told (HasKey key)
 first_has_file None keys raw key listed is some at named = tt
 first_has_file (Some s) [] raw key listed is some at named = absurd (omega arith)
 first_has_file (Some s) (k ∷ keys) raw key listed is some at named =
-    let same : raw_name k ≡ key = ap raw_name (sym at) ∙ sym named in
-    rw (← same) (in_order s listed (raw_name k) (map raw_name keys) is)
+    let same : key_of_raw k ≡ key = ap key_of_raw (sym at) ∙ sym named in
+    rw (← same) (in_order s listed (key_of_raw k) (map key_of_raw keys) is)

@@ -2,36 +2,36 @@ use Rattle.std.proofs.Common.{[], inr, Vec, Global, arith}
 use Rattle.med_backup.proofs.NodeSteps.{ok_with, later_rose, left_later}
 use Rattle.med_manifest.specs.declared.manifest.FileRecord.{FileRecord}
 use Rattle.med_outside.specs.Ends.{seen}
-use Rattle.med_outside.specs.State.{Moves}
+use Rattle.med_outside.specs.State.{ChangesWithin}
 use Rattle.med_outside.specs.World.{rose_of_node}
 use Rattle.med_outside.proofs.EndsLemmas.{carried}
-use Rattle.med_backup.specs.Answers.{IsMade}
+use Rattle.med_backup.specs.BackedUp.{IsBackedUpFrom}
 use Rattle.med_backup.specs.Plan.{LeavesOpen, LeavesNode, opened_plan, stop_of}
-use Rattle.med_backup.specs.Site.{site_of, opened_at, snap_at}
+use Rattle.med_backup.specs.NodeConfig.{node_config_of, opened_at, snap_at}
 use Rattle.med_backup.proofs.NodeSteps.{same_content, made_after}
 use Rattle.med_backup.proofs.node.backup_node.Goals as goal
 
 pub returns-in-Ok-clause-ok : goal.returns-in-Ok-clause-ok
 returns-in-Ok-clause-ok g c =
-    let first : Moves [] (opened_at (site_of c.args.config.now)
+    let first : ChangesWithin [] (opened_at (node_config_of c.args.config.now)
     (g.S.Storage.state c.args.store.now))
     (g.S.Storage.state c.open.new.self) (g.S.Storage.stood_since c.args.store.now)
     (g.S.Storage.stood_since c.open.new.self) =
     rw (c.as_str-base.ensures.value, c.as_str-bucket.ensures.value) at c.in-Ok.ensures.ok in
-    let held = snap_at (g.N.Nodes.state c.args.nodes.now).snaps (site_of c.args.config.now)
+    let held = snap_at (g.N.Nodes.state c.args.nodes.now).snaps (node_config_of c.args.config.now)
     c.args.name.now in
     ok_with c.backup_opened.result
-    (λ (files : Vec FileRecord Global). IsMade c.args.config.now.layout c.args.config.now.node
+    (λ (files : Vec FileRecord Global). IsBackedUpFrom c.args.config.now.layout c.args.config.now.node
     c.args.name.now held (g.S.Storage.state c.open.new.self)
     (g.S.Storage.state c.backup_opened.new.store) (g.S.Storage.stood_since c.open.new.self)
     (g.S.Storage.stood_since c.backup_opened.new.store) files.items)
-    (λ (files : Vec FileRecord Global). IsMade c.args.config.now.layout c.args.config.now.node
+    (λ (files : Vec FileRecord Global). IsBackedUpFrom c.args.config.now.layout c.args.config.now.node
     c.args.name.now held
-    (opened_at (site_of c.args.config.now) (g.S.Storage.state c.args.store.now))
+    (opened_at (node_config_of c.args.config.now) (g.S.Storage.state c.args.store.now))
     (g.S.Storage.state c.backup_opened.new.store) (g.S.Storage.stood_since c.args.store.now)
     (g.S.Storage.stood_since c.backup_opened.new.store) files.items)
     (λ files made. made_after c.args.config.now.layout c.args.config.now.node c.args.name.now held
-    (opened_at (site_of c.args.config.now) (g.S.Storage.state c.args.store.now))
+    (opened_at (node_config_of c.args.config.now) (g.S.Storage.state c.args.store.now))
     (g.S.Storage.state c.open.new.self) (g.S.Storage.state c.backup_opened.new.store)
     (g.S.Storage.stood_since c.args.store.now) (g.S.Storage.stood_since c.open.new.self)
     (g.S.Storage.stood_since c.backup_opened.new.store) files.items first made)
@@ -39,12 +39,12 @@ returns-in-Ok-clause-ok g c =
 
 pub returns-in-Ok-clause-ends : goal.returns-in-Ok-clause-ends
 returns-in-Ok-clause-ends g c =
-    let site = site_of c.args.config.now in
-    let first : Moves [] (opened_at site (g.S.Storage.state c.args.store.now))
+    let node_config = node_config_of c.args.config.now in
+    let first : ChangesWithin [] (opened_at node_config (g.S.Storage.state c.args.store.now))
     (g.S.Storage.state c.open.new.self) (g.S.Storage.stood_since c.args.store.now)
     (g.S.Storage.stood_since c.open.new.self) =
     rw (c.as_str-base.ensures.value, c.as_str-bucket.ensures.value) at c.in-Ok.ensures.ok in
-    let content = same_content (opened_at site (g.S.Storage.state c.args.store.now))
+    let content = same_content (opened_at node_config (g.S.Storage.state c.args.store.now))
     (g.S.Storage.state c.open.new.self) (g.S.Storage.stood_since c.args.store.now)
     (g.S.Storage.stood_since c.open.new.self) first.passes in
     inr (
@@ -66,22 +66,22 @@ returns-in-Ok-clause-ends g c =
           (g.S.Storage.state c.open.new.self).faults
           (g.S.Storage.state c.backup_opened.new.store).faults (omega arith)
           c.open.ensures.cause.later)
-          (LeavesOpen site c.args.name.now (g.N.Nodes.state c.args.nodes.now)
+          (LeavesOpen node_config c.args.name.now (g.N.Nodes.state c.args.nodes.now)
           (g.N.Nodes.state c.backup_opened.new.nodes) (g.S.Storage.state c.open.new.self)
           (g.S.Storage.state c.backup_opened.new.store)
           (g.S.Storage.stood_since c.open.new.self)
           (g.S.Storage.stood_since c.backup_opened.new.store))
-          (LeavesNode site c.args.name.now (g.N.Nodes.state c.args.nodes.now)
+          (LeavesNode node_config c.args.name.now (g.N.Nodes.state c.args.nodes.now)
           (g.N.Nodes.state c.backup_opened.new.nodes) (g.S.Storage.state c.args.store.now)
           (g.S.Storage.state c.backup_opened.new.store)
           (g.S.Storage.stood_since c.args.store.now)
           (g.S.Storage.stood_since c.backup_opened.new.store))
-          (left_later site c.args.name.now (g.N.Nodes.state c.args.nodes.now)
+          (left_later node_config c.args.name.now (g.N.Nodes.state c.args.nodes.now)
           (g.N.Nodes.state c.backup_opened.new.nodes) (g.S.Storage.state c.args.store.now)
           (g.S.Storage.state c.open.new.self) (g.S.Storage.state c.backup_opened.new.store)
           (g.S.Storage.stood_since c.args.store.now) (g.S.Storage.stood_since c.open.new.self)
           (g.S.Storage.stood_since c.backup_opened.new.store) first)
-          (opened_plan site c.args.name.now (g.N.Nodes.state c.args.nodes.now).snaps
+          (opened_plan node_config c.args.name.now (g.N.Nodes.state c.args.nodes.now).snaps
           (g.S.Storage.state c.args.store.now).content)
           (seen (λ (v : Vec FileRecord Global). v.items) (stop_of c.args.name.now)
           c.backup_opened.result)

@@ -3,14 +3,14 @@ use Rattle.med_outside.specs.Counts.{tagged, with_closed, opened_once}
 use Rattle.med_outside.specs.Ends.{seen}
 use Rattle.med_outside.specs.World.{rose_of_node}
 use Rattle.med_outside.proofs.EndsLemmas.{carried_as}
-use Rattle.med_backup.specs.Plan.{Changes, IsMadeBy, LeavesOpen, Worked, snapshot_plan, stop_of}
-use Rattle.med_backup.specs.Site.{site_of, snap_at, tag_of}
+use Rattle.med_backup.specs.Plan.{ChangeLists, IsMadeBy, LeavesOpen, Worked, snapshot_plan, stop_of}
+use Rattle.med_backup.specs.NodeConfig.{node_config_of, snap_at, tag_of}
 use Rattle.med_backup.proofs.NodeSteps.{closed_rose}
 use Rattle.med_backup.proofs.node.backup_opened.Goals as goal
 
 pub returns-clause-ends : goal.returns-clause-ends
 returns-clause-ends g c =
-    let site = site_of c.args.config.now in
+    let node_config = node_config_of c.args.config.now in
     let tag : c.as_str-2.result.now ≡ tag_of c.args.name.now =
     rw (c.as_str-2.ensures.value, c.in-Ok.ensures.ok, c.as_str.ensures.value) refl in
     let counts : (g.N.Nodes.state c.close.new.self).counts ≡ opened_once
@@ -41,15 +41,15 @@ returns-clause-ends g c =
           (g.S.Storage.state c.backup_snapshot-answer.new.store).faults
           c.open.ensures.cause.later c.in-Ok-open.ensures.fresh c.close.ensures.faults)
           made
-          (LeavesOpen site c.args.name.now (g.N.Nodes.state c.args.nodes.now)
+          (LeavesOpen node_config c.args.name.now (g.N.Nodes.state c.args.nodes.now)
           (g.N.Nodes.state c.close.new.self) (g.S.Storage.state c.args.store.now)
           (g.S.Storage.state c.backup_snapshot-answer.new.store)
           (g.S.Storage.stood_since c.args.store.now)
           (g.S.Storage.stood_since c.backup_snapshot-answer.new.store))
           Worked
-          (λ (v : Changes) h. (h, rw (c.as_str-root.ensures.value, tag) at counts))
-          (snapshot_plan site.before site.node c.args.name.now
-          (snap_at (g.N.Nodes.state c.args.nodes.now).snaps site c.args.name.now)
+          (λ (v : ChangeLists) h. (h, rw (c.as_str-root.ensures.value, tag) at counts))
+          (snapshot_plan node_config.before node_config.node c.args.name.now
+          (snap_at (g.N.Nodes.state c.args.nodes.now).snaps node_config c.args.name.now)
           (g.S.Storage.state c.args.store.now).content)
           (seen (λ files. files.items) (stop_of c.args.name.now) c.backup_snapshot-answer.result)
           (rw (c.in-Ok-open.ensures.held, c.as_str-root.ensures.value, tag)

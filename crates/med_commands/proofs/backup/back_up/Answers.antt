@@ -6,7 +6,7 @@ use Rattle.med_outside.proofs.EndsLemmas.{carried_as, goes_on, stops_all}
 use Rattle.med_outside.proofs.Passing.{moves_at_rest}
 use Rattle.med_words.specs.Views.{asked_of}
 use Rattle.med_backup.specs.Plan.{Left, LeavesNode, node_plan, stop_of as stop_of_error}
-use Rattle.med_backup.specs.Site.{site_of}
+use Rattle.med_backup.specs.NodeConfig.{node_config_of}
 use Rattle.med_commands.specs.Fault.{stop_of, fault_of_load}
 use Rattle.med_commands.specs.Headline.{says}
 use Rattle.med_commands.specs.Plans.{IsSilent, IsDone, prints}
@@ -47,20 +47,20 @@ returns-in-Err-backup_node-clause-ends g c =
     let b = (world (g.F.Files.state c.load.new.files) (g.N.Nodes.state c.backup_node.new.nodes)
     (g.S.Storage.state c.backup_node.new.store) (g.S.Storage.stood_since c.backup_node.new.store)
     (g.O.Sink.state c.args.out.now)) in
-    let site = site_of c.in-Ok-load.config in
+    let node_config = node_config_of c.in-Ok-load.config in
     let low = rose_of_node a.nodes.faults b.nodes.faults a.store.faults b.store.faults in
-    let means = LeavesNode site c.args.name.now a.nodes b.nodes a.store b.store a.stood b.stood in
-    let plan = node_plan site c.args.name.now a.nodes.snaps a.store.content in
+    let means = LeavesNode node_config c.args.name.now a.nodes b.nodes a.store b.store a.stood b.stood in
+    let plan = node_plan node_config c.args.name.now a.nodes.snaps a.store.content in
     let word : Left → Type 0 = λ (left : Left). means left × IsSilent a b in
     let stop = stop_of_error c.args.name.now c.in-Err-backup_node.error in
     rw (c.fault_of.ensures, c.in-Ok.ensures, stop_for c.args.name.now c.in-Err-backup_node.error)
     (asked_plan (asked_of c.args.request.now) c.args.name.now a b (Err stop) c.requires
     (inr (
-      site,
+      node_config,
       (c.in-Ok-load.config, c.in-Ok-load.ensures.ok, refl),
       stops_all (rose_of a b) says
-          (λ files. prints (report_line c.args.name.now site.node files)
-          (IsDone site c.args.name.now a b files) a b) stop (said_as word plan)
+          (λ files. prints (report_line c.args.name.now node_config.node files)
+          (IsDone node_config c.args.name.now a b files) a b) stop (said_as word plan)
           (carried_as low (rose_of a b) (up_node a b) means says word (λ v h. (h, refl)) plan
           (Err stop) c.in-Err-backup_node.ensures.ends),
     )))
@@ -73,26 +73,26 @@ returns-in-Ok-backup_node-clause-ends g c =
     let b = (world (g.F.Files.state c.load.new.files) (g.N.Nodes.state c.backup_node.new.nodes)
     (g.S.Storage.state c.backup_node.new.store) (g.S.Storage.stood_since c.backup_node.new.store)
     (g.O.Sink.state c.print_line.new.out)) in
-    let site = site_of c.in-Ok-load.config in
+    let node_config = node_config_of c.in-Ok-load.config in
     let files = c.in-Ok-backup_node.records.items in
     let end = seen (λ (x : Unit {0}). x) stop_of c.print_line.result in
     let low = rose_of_node a.nodes.faults b.nodes.faults a.store.faults b.store.faults in
-    let means = LeavesNode site c.args.name.now a.nodes b.nodes a.store b.store a.stood b.stood in
-    let plan = node_plan site c.args.name.now a.nodes.snaps a.store.content in
+    let means = LeavesNode node_config c.args.name.now a.nodes b.nodes a.store b.store a.stood b.stood in
+    let plan = node_plan node_config c.args.name.now a.nodes.snaps a.store.content in
     let word : Left → Type 0 = λ (left : Left). means left × IsSilent a b in
     asked_plan (asked_of c.args.request.now) c.args.name.now a b end c.requires
     (inr (
-      site,
+      node_config,
       (c.in-Ok-load.config, c.in-Ok-load.ensures.ok, refl),
       goes_on (rose_of a b) says
-          (λ files. prints (report_line c.args.name.now site.node files)
-          (IsDone site c.args.name.now a b files) a b) (rose_of a b) (λ w. Unit {0}) files end
+          (λ files. prints (report_line c.args.name.now node_config.node files)
+          (IsDone node_config c.args.name.now a b files) a b) (rose_of a b) (λ w. Unit {0}) files end
           (said_as word plan)
           (carried_as low (rose_of a b) (up_node a b) means (λ w. Unit {0}) word (λ v h. tt) plan
           (Ok files) c.in-Ok-backup_node.ensures.ends)
-          (printed a b (report_line c.args.name.now site.node files)
-          (IsDone site c.args.name.now a b files) c.print_line.result c.print_line.ensures.step
-          (done_of site c.args.name.now a b files c.in-Ok-backup_node.ensures.ok)
+          (printed a b (report_line c.args.name.now node_config.node files)
+          (IsDone node_config c.args.name.now a b files) c.print_line.result c.print_line.ensures.step
+          (done_of node_config c.args.name.now a b files c.in-Ok-backup_node.ensures.ok)
           (rw c.as_slice.ensures.value at c.print_line.ensures.ok)
           (rw c.as_slice.ensures.value at c.print_line.ensures.err)),
     ))

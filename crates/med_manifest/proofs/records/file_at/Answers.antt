@@ -1,6 +1,6 @@
 use Rattle.std.proofs.Common.{◌≡◌, ◌∙◌, ap, sym, subst, ℕ, List, Option, Some, None, IfSome, option_map, Bor}
 use Rattle.med_base.specs.Classify.{kind_of}
-use Rattle.med_base.specs.KindOf.{IsOfKind}
+use Rattle.med_base.specs.KindRelation.{IsOfKind}
 use Rattle.med_base.specs.Kinds.{Kind, as_data}
 use Rattle.med_manifest.specs.Manifest.{IsKeyOf}
 use Rattle.med_manifest.specs.Named.{Named, named}

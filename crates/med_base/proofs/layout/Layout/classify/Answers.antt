@@ -1,7 +1,7 @@
 use Rattle.std.proofs.Common.{◌≡◌, ◌∙◌, List, ℕ, Option, None, refl, sym, ap, ap₂, subst, option_map, unwrap_or}
 use Rattle.med_base.specs.Classify.{kind_below}
 use Rattle.med_base.specs.Entries.{behind}
-use Rattle.med_base.specs.KindOf.{IsOfKind}
+use Rattle.med_base.specs.KindRelation.{IsOfKind}
 use Rattle.med_base.specs.Kinds.{Kind, Other}
 use Rattle.med_base.specs.Prefix.{parts}
 use Rattle.med_base.proofs.KindsLaw.{kind_told}

@@ -5,7 +5,7 @@ use Rattle.med_outside.specs.Snapshot.{Snapshot}
 use Rattle.med_outside.specs.State.{State, opened}
 use Rattle.med_outside.specs.World.{Snapshots}
 
-pub record Site : Type 0 where
+pub record NodeConfig : Type 0 where
   pub base : List ℕ
   pub bucket : List ℕ
   -- what stands before each path of the bucket
@@ -14,8 +14,8 @@ pub record Site : Type 0 where
   -- the folder of the nodes
   pub nodes_root : List ℕ
 
-abbrev pub site_of : Config → Site
-site_of config = record {
+abbrev pub node_config_of : Config → NodeConfig
+node_config_of config = record {
   base = string_bytes config.base;
   bucket = string_bytes config.bucket;
   before = config.layout;
@@ -28,9 +28,9 @@ abbrev pub tag_of : List ℕ → List ℕ
 tag_of name = codes "medusa-" ++ name
 
 -- the bucket was opened there
-abbrev pub opened_at : Site → State → State
-opened_at site s = opened site.base site.bucket site.before s
+abbrev pub opened_at : NodeConfig → State → State
+opened_at node_config s = opened node_config.base node_config.bucket node_config.before s
 
 -- the snapshot that a backup of this name copies there
-abbrev pub snap_at : Snapshots → Site → List ℕ → Option Snapshot
-snap_at snaps site n = snaps site.nodes_root site.node (tag_of n)
+abbrev pub snap_at : Snapshots → NodeConfig → List ℕ → Option Snapshot
+snap_at snaps node_config n = snaps node_config.nodes_root node_config.node (tag_of n)

@@ -9,7 +9,7 @@ use Rattle.med_ini.proofs.OneFault.{fault_none}
 use Rattle.med_ini.proofs.OneReading.{one_reading_of}
 use Rattle.med_words.specs.Request.{Asked}
 use Rattle.med_commands.specs.Loaded.{AreOverrides, Gives, HasBytes, IsConfigured, IsRefusedFor, BlamesFile, IsRefused}
-use Rattle.med_backup.specs.Site.{Site, site_of}
+use Rattle.med_backup.specs.NodeConfig.{NodeConfig, node_config_of}
 use Rattle.med_outside.specs.World.{FileContents}
 use Rattle.med_commands.specs.declared.load.ConfigFault.{ConfigFault}
 use Rattle.med_commands.specs.declared.load.ConfigFault.TheVariants.{NoFile, Line, Missing, BadNumber, BadName, Provider}
@@ -48,15 +48,15 @@ texts_same asked a b over other same f g =
 inside : (x y : List ℕ) → Some x ≡ Some y → x ≡ y
 inside x y e = cc
 
-same_site : (a b c d n m k l r s : List ℕ) → a ≡ b → c ≡ d → n ≡ m → k ≡ l → r ≡ s
-    → ◌≡◌ {A = Site} (record { base = a; bucket = c; before = n; node = k; nodes_root = r })
+same_node_config : (a b c d n m k l r s : List ℕ) → a ≡ b → c ≡ d → n ≡ m → k ≡ l → r ≡ s
+    → ◌≡◌ {A = NodeConfig} (record { base = a; bucket = c; before = n; node = k; nodes_root = r })
     (record { base = b; bucket = d; before = m; node = l; nodes_root = s })
-same_site a b c d n m k l r s base bucket before node root =
+same_node_config a b c d n m k l r s base bucket before node root =
     rw (base, bucket, before, node, root) refl
 
-site_read : (t : Texts) (c d : Config) → IsRead t c → IsRead t d → site_of c ≡ site_of d
-site_read t c d f g =
-    same_site (string_bytes c.base) (string_bytes d.base) (string_bytes c.bucket)
+node_config_read : (t : Texts) (c d : Config) → IsRead t c → IsRead t d → node_config_of c ≡ node_config_of d
+node_config_read t c d f g =
+    same_node_config (string_bytes c.base) (string_bytes d.base) (string_bytes c.bucket)
     (string_bytes d.bucket) c.layout d.layout c.node d.node (string_bytes c.nodes_root)
     (string_bytes d.nodes_root)
     (inside (string_bytes c.base) (string_bytes d.base) (f.base ∙ sym g.base))
@@ -77,9 +77,9 @@ module _ (files : FileContents) (asked : Asked) (file : Option (List ℕ))
       subst (λ (o : Option (Option (List ℕ))). IfSome o (HasBytes
       (λ bytes. Gives c.over bytes config))) told c.gives
 
-  pub one_site_of : (c d : Config) → IsConfigured files asked c → IsConfigured files asked d
-      → site_of c ≡ site_of d
-  one_site_of c d f g =
+  pub one_node_config : (c d : Config) → IsConfigured files asked c → IsConfigured files asked d
+      → node_config_of c ≡ node_config_of d
+  one_node_config c d f g =
       let x = gives_it c f in
       let y = gives_it d g in
       let bytes : x.0 ≡ y.0 = inside x.0 y.0 (sym x.1 ∙ y.1) in
@@ -87,7 +87,7 @@ module _ (files : FileContents) (asked : Asked) (file : Option (List ℕ))
       let entries = one_reading_of x.0 x.2.entries given.entries x.2.ini given.ini in
       let texts = texts_same asked x.2.entries given.entries f.over g.over entries f.overrides
       g.overrides in
-      site_read (texts_of given.entries g.over) c d
+      node_config_read (texts_of given.entries g.over) c d
       (subst (λ (t : Texts). IsRead t c) texts x.2.options.read) given.options.read
 
   -- no check fails where the file gives a configuration

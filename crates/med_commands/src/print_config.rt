@@ -1,6 +1,6 @@
 // The texts of a config file that gives no configuration.
 ghost use Rattle.std.specs.Prelude.{◌≤◌, OnErr};
-ghost use Rattle.med_outside.specs.Causes.{Rose};
+ghost use Rattle.med_outside.specs.Causes.{RoseOrFull};
 ghost use Rattle.med_commands.specs.Loaded.{config_text};
 ghost use Rattle.med_commands.specs.Texts.{line_text};
 ghost use Rattle.med_commands.specs.Printed.{Prints, complaint};
@@ -15,7 +15,7 @@ fn say_line<E: Sink>(err: &mut E, line: u64, kind: IniKind) -> Result<(), SinkFa
     ensures text { Prints (complaint (line_text line kind)) (E.state err.old).taken (E.state err.new).taken
         result }
     ensures later { (E.state err.old).faults ≤ (E.state err.new).faults }
-    ensures failed { OnErr result (Rose (E.state err.old).faults (E.state err.new).faults) }
+    ensures failed { OnErr result (RoseOrFull (E.state err.old).faults (E.state err.new).faults) }
 {
     let mut buffer = Buffer::new();
     let number = buffer.format(line);
@@ -36,7 +36,7 @@ pub(crate) fn say_config<E: Sink>(err: &mut E, fault: &ConfigFault) -> Result<()
     ensures text { Prints (complaint (config_text fault.now)) (E.state err.old).taken (E.state err.new).taken
         result }
     ensures later { (E.state err.old).faults ≤ (E.state err.new).faults }
-    ensures failed { OnErr result (Rose (E.state err.old).faults (E.state err.new).faults) }
+    ensures failed { OnErr result (RoseOrFull (E.state err.old).faults (E.state err.new).faults) }
 {
     match fault {
         ConfigFault::NoFile { name } => say_named(err, b"config: no file ", name.as_bytes()),

@@ -1,7 +1,7 @@
 // Files that are read by their names.
 ghost use Rattle.std.specs.Prelude.{◌≡◌, ℕ, None};
 
-use crate::count::{counted, is_absent};
+use crate::faults::{counted, is_absent};
 use std::alloc::Global;
 use std::fs::{File, Files};
 use std::io;

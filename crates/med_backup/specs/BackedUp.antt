@@ -9,7 +9,7 @@ use Rattle.med_manifest.specs.declared.manifest.FileRecord.{FileRecord}
 use Rattle.med_manifest.specs.Manifest.{IsManifest}
 use Rattle.med_manifest.specs.Written.{manifest_text}
 use Rattle.med_outside.specs.Snapshot.{Snapshot}
-use Rattle.med_outside.specs.State.{State, Moves}
+use Rattle.med_outside.specs.State.{State, ChangesWithin, History}
 use Rattle.med_backup.specs.Copies.{Copy, key_of, records_of, backup_puts, AreOf}
 use Rattle.med_backup.specs.Taken.{IsFree}
 use Rattle.med_backup.specs.Walked.{CanBeWalked}
@@ -32,7 +32,7 @@ pub record IsFound (before f n : List ℕ) (held : Option Snapshot) (told : Opti
 -- Exactly the puts of a backup were made: of the schema, of the files with these keys, and of the
 -- manifest that names them.
 pub record IsCopied (before f n : List ℕ) (held : Option Snapshot) (order : List FileKey)
-    (schema : List ℕ) (old new : State) (past since : ℕ → Content → Type 0)
+    (schema : List ℕ) (old new : State) (stood_before stood_after : History)
     (files : List FileRecord) : Type 0 where
   pub at : ℕ
   pub copies : List Copy
@@ -41,12 +41,12 @@ pub record IsCopied (before f n : List ℕ) (held : Option Snapshot) (order : Li
   pub bytes_are : AreOf held copies
   pub files_are : files ≡ records_of before f n copies
   pub manifest_is : IsManifest before f n (manifest_text files) files
-  pub moves : Moves (backup_puts before f n schema at copies end) old new past since
+  pub moves : ChangesWithin (backup_puts before f n schema at copies end) old new stood_before stood_after
 
 -- the backup was made of all that was found
-pub record IsMade (before f n : List ℕ) (held : Option Snapshot) (old new : State)
-    (past since : ℕ → Content → Type 0) (files : List FileRecord) : Type 0 where
+pub record IsBackedUpFrom (before f n : List ℕ) (held : Option Snapshot) (old new : State)
+    (stood_before stood_after : History) (files : List FileRecord) : Type 0 where
   pub order : List FileKey
   pub schema : List ℕ
   pub found : IsFound before f n held old.content order schema
-  pub copied : IsCopied before f n held order schema old new past since files
+  pub copied : IsCopied before f n held order schema old new stood_before stood_after files

@@ -3,7 +3,7 @@ use Rattle.std.specs.Prelude.{decimal}
 use Rattle.med_commands.specs.Printed.{Prints}
 use Rattle.med_ini.specs.Texts.{kind_text}
 use Rattle.med_commands.proofs.Printing.{line_said}
-use Rattle.med_commands.proofs.config_fault.say_line.Goals as goal
+use Rattle.med_commands.proofs.print_config.say_line.Goals as goal
 
 pub returns-clause-text : goal.returns-clause-text
 returns-clause-text g c =
