@@ -1,3 +1,6 @@
 pub mod BackupSteps
+pub mod DecidedLemmas
+pub mod DecidedTexts
+pub mod DecidedWork
 pub mod OneNodeConfig
 pub mod Printing

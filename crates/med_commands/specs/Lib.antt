@@ -1,3 +1,4 @@
+pub mod Decided
 pub mod Fault
 pub mod Headline
 pub mod Loaded

@@ -7,6 +7,7 @@
 
 mod backup;
 mod fault;
+mod laws;
 mod load;
 mod main_call;
 mod print;
@@ -14,5 +15,6 @@ mod print_config;
 mod report;
 mod status;
 
+pub use laws::what_is_told_decides;
 pub use main_call::{medusa_main, run_command, tell_no_memory};
 pub use status::Status;

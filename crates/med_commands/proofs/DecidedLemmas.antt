@@ -1,0 +1,165 @@
+-- What is told decides how a command ends.
+use Rattle.std.proofs.Common.{◌≡◌, false, List, ℕ, Result, Ok, Err, sym, ◌∙◌, ap, subst}
+use Rattle.med_backup.specs.NodeConfig.{NodeConfig, node_config_of, snap_at}
+use Rattle.med_ini.specs.declared.config.Config.{Config}
+use Rattle.med_outside.specs.Ends.{Refusal, BadWords, NotBuilt, BadConfig, Taken, NoSnapshot, BadFileName, Refused, Leads}
+use Rattle.med_outside.specs.Snapshot.{Snapshot}
+use Rattle.med_outside.specs.World.{World}
+use Rattle.med_outside.specs.declared.mode.Mode.TheVariants.{Full, Differential}
+use Rattle.med_words.specs.Blames.{BlamesWords}
+use Rattle.med_words.specs.Request.{Action, Asked, IsRequest, word_of, backup, backup_cluster, build_index, delete_backup, download, fetch_tokenmap, last_complete, list_backups, purge, purge_decommissioned, report_last, restore_cluster, restore_node, status, verify, jobs, rehearse}
+use Rattle.med_words.specs.declared.request.Usage.{Usage}
+use Rattle.med_words.specs.declared.request.WordsError.TheVariants as words_error
+use Rattle.med_words.proofs.OneRequest.{one_request, asks_nothing}
+use Rattle.med_commands.specs.Decided.{is_built, IsAskedBackup, IsAskedOver, IsDecided}
+use Rattle.med_commands.specs.Headline.{End}
+use Rattle.med_commands.specs.Loaded.{IsConfigured, IsRefused, config_text}
+use Rattle.med_commands.specs.Plans.{ReadsConfig, ReadsWords, backup_plan, unbuilt_plan, action_plan, plan_of, words_plan}
+use Rattle.med_commands.specs.Texts.{usage_text}
+use Rattle.med_commands.specs.declared.load.ConfigFault.{ConfigFault}
+use Rattle.med_commands.proofs.DecidedTexts.{one_usage, one_text}
+use Rattle.med_commands.proofs.DecidedWork.{by_answer, work, node_work, node_leads, free_leads, taken_leads, empty_leads, bad_key_leads}
+use Rattle.med_commands.proofs.OneNodeConfig.{one_node_config, not_refused}
+
+-- ---- the config file
+
+module _ (asked : Asked) (n : List ℕ) (a b : World) (asks : IsAskedBackup asked a n) where
+  backup_leads : (r : End) → Leads (backup_plan asked n a b) r → Leads (plan_of asked a b) r
+  backup_leads r leads =
+      subst (λ (action : Action). Leads (action_plan action asked a b) r) (sym asks.action) leads
+
+  over_node_config : (node_config : NodeConfig) (config : Config)
+      → IsConfigured a.files.contents asked config
+      → node_config ≡ node_config_of config → (r : End) → Leads (node_work node_config n a b) r
+      → Leads (plan_of asked a b) r
+  over_node_config node_config config configured is r leads =
+      backup_leads r (by_answer _ _ _
+      (λ other h. subst (λ (t : NodeConfig). Leads (node_work t n a b) r)
+      (is ∙ one_node_config a.files.contents asked asks.file asks.file_is config h.0 configured h.1
+      ∙ sym h.2) leads) (λ f h. absurd (no f h)))
+    where
+      no : (f : Refusal) → ReadsConfig a.files.contents asked (Err f) → ⊥
+      no (BadConfig text) h =
+          not_refused a.files.contents asked asks.file asks.file_is h.0 config configured h.1
+      no (NoSnapshot name) h = h
+      no (BadFileName at) h = h
+      no (BadWords text) h = h
+      no (NotBuilt word) h = h
+      no (Taken name path) h = h
+
+  bad_config_leads : (fault : ConfigFault) → IsRefused a.files.contents asked fault
+      → Leads (plan_of asked a b) (Err (Refused (BadConfig (config_text fault))))
+  bad_config_leads fault refused =
+      backup_leads (Err (Refused (BadConfig (config_text fault))))
+      (by_answer _ _ _
+      (λ node_config h. absurd (not_refused a.files.contents asked asks.file asks.file_is fault h.0
+      h.1 refused)) yes)
+    where
+      yes : (f : Refusal) → ReadsConfig a.files.contents asked (Err f)
+          → ◌≡◌ {A = End} (Err (Refused (BadConfig (config_text fault)))) (Err (Refused f))
+      yes (BadConfig text) h =
+          ap (λ (t : List ℕ). Err (Refused (BadConfig t)))
+          (one_text a.files.contents asked asks.file asks.file_is fault h.0 refused h.1 ∙ sym h.2)
+      yes (NoSnapshot name) h = absurd h
+      yes (BadFileName at) h = absurd h
+      yes (BadWords text) h = absurd h
+      yes (NotBuilt word) h = absurd h
+      yes (Taken name path) h = absurd h
+
+-- a full backup over a snapshot that is told: the work on the snapshot decides
+over_snapshot : (asked : Asked) (node_config : NodeConfig) (n : List ℕ) (a b : World) (s : Snapshot)
+    → IsAskedOver asked a node_config n s → (r : End)
+    → Leads (work node_config n a b (snap_at a.nodes.snaps node_config n) a.store.content) r
+    → Leads (plan_of asked a b) r
+over_snapshot asked node_config n a b s over r leads =
+    over_node_config asked n a b over.asks node_config over.config over.configured
+    over.node_config_is r (node_leads node_config n a b r leads)
+
+-- ---- the command and the words
+
+unbuilt_leads : (word : List ℕ) (a b : World)
+    → Leads (unbuilt_plan word a b) (Err (Refused (NotBuilt word)))
+unbuilt_leads word a b = by_answer _ _ _ (λ x h. absurd (no x h)) yes
+  where
+    no : (x : Unit {0}) → ◌≡◌ {A = Result (Unit {0}) Refusal} (Ok x) (Err (NotBuilt word)) → ⊥
+    no x h = cc h
+
+    yes : (f : Refusal)
+        → ◌≡◌ {A = Result (Unit {0}) Refusal} (Err f) (Err (NotBuilt word))
+        → ◌≡◌ {A = End} (Err (Refused (NotBuilt word))) (Err (Refused f))
+    yes f h = let is : NotBuilt word ≡ f = cc h in ap (λ (g : Refusal). Err (Refused g)) is
+
+no_command : (action : Action) (asked : Asked) (a b : World) → is_built action ≡ false
+    → Leads (action_plan action asked a b) (Err (Refused (NotBuilt (word_of action))))
+no_command (backup n Full) asked a b e = absurd (cc e)
+no_command (backup n Differential) asked a b e = unbuilt_leads _ a b
+no_command (backup_cluster n mode workers) asked a b e = unbuilt_leads _ a b
+no_command build_index asked a b e = unbuilt_leads _ a b
+no_command (delete_backup n all) asked a b e = unbuilt_leads _ a b
+no_command (download n to) asked a b e = unbuilt_leads _ a b
+no_command (fetch_tokenmap n) asked a b e = unbuilt_leads _ a b
+no_command last_complete asked a b e = unbuilt_leads _ a b
+no_command (list_backups all) asked a b e = unbuilt_leads _ a b
+no_command purge asked a b e = unbuilt_leads _ a b
+no_command purge_decommissioned asked a b e = unbuilt_leads _ a b
+no_command report_last asked a b e = unbuilt_leads _ a b
+no_command (restore_cluster n hosts) asked a b e = unbuilt_leads _ a b
+no_command (restore_node n) asked a b e = unbuilt_leads _ a b
+no_command (status n) asked a b e = unbuilt_leads _ a b
+no_command (verify n) asked a b e = unbuilt_leads _ a b
+no_command (jobs file) asked a b e = unbuilt_leads _ a b
+no_command (rehearse rounds) asked a b e = unbuilt_leads _ a b
+
+words_lead : (words : List (List ℕ)) (asked : Asked) (a b : World) (told : End)
+    → IsRequest words asked → Leads (plan_of asked a b) told → Leads (words_plan words a b) told
+words_lead words asked a b told is leads =
+    by_answer _ _ _ (λ other h. subst (λ (x : Asked). Leads (plan_of x a b) told)
+    (one_request words asked other is h) leads) (λ f h. absurd (no f h))
+  where
+    no : (f : Refusal) → ReadsWords words (Err f) → ⊥
+    no (BadWords text) h = h.2 asked is
+    no (NoSnapshot name) h = h
+    no (BadFileName at) h = h
+    no (BadConfig text) h = h
+    no (NotBuilt word) h = h
+    no (Taken name path) h = h
+
+bad_words_lead : (words : List (List ℕ)) (usage : Usage) (a b : World)
+    → BlamesWords words (words_error.Usage usage)
+    → Leads (words_plan words a b) (Err (Refused (BadWords (usage_text usage))))
+bad_words_lead words usage a b blames =
+    by_answer _ _ _
+    (λ asked h. absurd (asks_nothing words (words_error.Usage usage) blames asked h)) yes
+  where
+    yes : (f : Refusal) → ReadsWords words (Err f)
+        → ◌≡◌ {A = End} (Err (Refused (BadWords (usage_text usage)))) (Err (Refused f))
+    yes (BadWords text) h =
+        ap (λ (t : List ℕ). Err (Refused (BadWords t)))
+        (one_usage words usage h.0 blames h.1 ∙ sym h.3)
+    yes (NoSnapshot name) h = absurd h
+    yes (BadFileName at) h = absurd h
+    yes (BadConfig text) h = absurd h
+    yes (NotBuilt word) h = absurd h
+    yes (Taken name path) h = absurd h
+
+-- ---- the law
+
+pub decided : (a b : World) → IsDecided a b
+decided a b = record {
+  done = λ asked node_config n s c over walked content none.
+      over_snapshot asked node_config n a b s over (Ok tt)
+      (free_leads node_config n a b _ _ s over.snapshot_is c walked content none);
+  taken = λ asked node_config n s c path over walked content first.
+      over_snapshot asked node_config n a b s over (Err (Refused (Taken n path)))
+      (taken_leads node_config n a b _ _ s over.snapshot_is c path walked content first);
+  no_snapshot = λ asked node_config n s over none.
+      over_snapshot asked node_config n a b s over (Err (Refused (NoSnapshot n)))
+      (empty_leads node_config n a b _ _ s over.snapshot_is none);
+  bad_file_name = λ asked node_config n s at over bad.
+      over_snapshot asked node_config n a b s over (Err (Refused (BadFileName at)))
+      (bad_key_leads node_config n a b _ _ s over.snapshot_is at bad);
+  no_config = λ asked n fault asks refused. bad_config_leads asked n a b asks fault refused;
+  unbuilt = λ asked e. no_command asked.action asked a b e;
+  words = λ words asked told is leads. words_lead words asked a b told is leads;
+  bad_words = λ words usage blames. bad_words_lead words usage a b blames;
+}

@@ -1,0 +1,116 @@
+-- How a command ends where what it meets is told, as the law `what_is_told_decides` has it. A plan
+-- leads to an end where each call of it ends so, but for devices that fail.
+use Rattle.std.specs.Prelude.{◌≡◌, ℕ, Bool, true, false, List, [], Option, Some, Result, Ok, Err}
+use Rattle.med_base.specs.Content.{Content, objects_under}
+use Rattle.med_base.specs.Layout.{backup_folder}
+use Rattle.med_backup.specs.NodeConfig.{NodeConfig, node_config_of, snap_at}
+use Rattle.med_backup.specs.Taken.{first_path}
+use Rattle.med_backup.specs.Walked.{CanBeWalked, IsFirstBad}
+use Rattle.med_ini.specs.declared.config.Config.{Config}
+use Rattle.med_outside.specs.Ends.{BadWords, NotBuilt, BadConfig, Taken, NoSnapshot, BadFileName, Stop, Refused, Leads}
+use Rattle.med_outside.specs.Snapshot.{Snapshot}
+use Rattle.med_outside.specs.World.{World}
+use Rattle.med_outside.specs.declared.mode.Mode.TheVariants.{Full}
+use Rattle.med_words.specs.Blames.{BlamesWords}
+use Rattle.med_words.specs.Request.{Action, Asked, IsRequest, backup, word_of}
+use Rattle.med_words.specs.declared.request.Usage.{Usage}
+use Rattle.med_words.specs.declared.request.WordsError.TheVariants as words_error
+use Rattle.med_commands.specs.Loaded.{IsConfigured, IsRefused, config_text}
+use Rattle.med_commands.specs.Plans.{plan_of, words_plan}
+use Rattle.med_commands.specs.Texts.{usage_text}
+use Rattle.med_commands.specs.declared.load.ConfigFault.{ConfigFault}
+
+-- ---- what is told
+
+-- the full backup of a node is the only command that is built
+abbrev pub is_built : Action → Bool
+is_built (backup n Full) = true
+is_built action = false
+
+-- a full backup of this name is asked for, and the files tell of the config file: what its bytes
+-- are, or that there is none
+pub record IsAskedBackup (asked : Asked) (a : World) (n : List ℕ) : Type 0 where
+  pub action : asked.action ≡ backup n Full
+  pub file : Option (List ℕ)
+  pub file_is : a.files.contents asked.config_file ≡ Some file
+
+-- the same; and the config file gives a configuration that says this of the node, for which the
+-- nodes tell this snapshot
+pub record IsAskedOver (asked : Asked) (a : World) (node_config : NodeConfig) (n : List ℕ)
+    (s : Snapshot) : Type 0 where
+  pub asks : IsAskedBackup asked a n
+  pub config : Config
+  pub configured : IsConfigured a.files.contents asked config
+  pub node_config_is : node_config ≡ node_config_of config
+  pub snapshot_is : snap_at a.nodes.snaps node_config n ≡ Some s
+
+-- ---- how a full backup ends
+
+-- the snapshot has keys that are names of files, and no object lies under the folder of the name:
+-- the command ends well
+abbrev pub FreeIsDone : World → World → Type 0
+FreeIsDone a b =
+    (asked : Asked) (node_config : NodeConfig) (n : List ℕ) (s : Snapshot) (c : Content)
+    → IsAskedOver asked a node_config n s → CanBeWalked s → a.store.content ≡ Some c
+    → objects_under (backup_folder node_config.before node_config.node n) c ≡ []
+    → Leads (plan_of asked a b) (Ok tt)
+
+-- the same, but that an object lies under the folder: the first of their paths is told
+abbrev pub TakenIsRefused : World → World → Type 0
+TakenIsRefused a b =
+    (asked : Asked) (node_config : NodeConfig) (n : List ℕ) (s : Snapshot) (c : Content)
+    (path : List ℕ)
+    → IsAskedOver asked a node_config n s → CanBeWalked s → a.store.content ≡ Some c
+    → first_path (objects_under (backup_folder node_config.before node_config.node n) c) ≡ Some path
+    → Leads (plan_of asked a b) (Err (Refused (Taken n path)))
+
+-- the snapshot has no key
+abbrev pub EmptyIsRefused : World → World → Type 0
+EmptyIsRefused a b = (asked : Asked) (node_config : NodeConfig) (n : List ℕ) (s : Snapshot)
+    → IsAskedOver asked a node_config n s → s.order ≡ []
+    → Leads (plan_of asked a b) (Err (Refused (NoSnapshot n)))
+
+-- the key at this place is the first that is no name of a file
+abbrev pub BadKeyIsRefused : World → World → Type 0
+BadKeyIsRefused a b =
+    (asked : Asked) (node_config : NodeConfig) (n : List ℕ) (s : Snapshot) (at : ℕ)
+    → IsAskedOver asked a node_config n s → IsFirstBad at s.order
+    → Leads (plan_of asked a b) (Err (Refused (BadFileName at)))
+
+-- the config file gives no configuration
+abbrev pub BadConfigIsRefused : World → World → Type 0
+BadConfigIsRefused a b = (asked : Asked) (n : List ℕ) (fault : ConfigFault)
+    → IsAskedBackup asked a n → IsRefused a.files.contents asked fault
+    → Leads (plan_of asked a b) (Err (Refused (BadConfig (config_text fault))))
+
+-- ---- how all commands end
+
+-- the command isn't built, whatever the config file is
+abbrev pub UnbuiltIsRefused : World → World → Type 0
+UnbuiltIsRefused a b = (asked : Asked) → is_built asked.action ≡ false
+    → Leads (plan_of asked a b) (Err (Refused (NotBuilt (word_of asked.action))))
+
+-- the words ask for this: the whole ends as what they ask for
+abbrev pub WordsDecide : World → World → Type 0
+WordsDecide a b =
+    (words : List (List ℕ)) (asked : Asked) (told : Result (Unit {0}) Stop)
+    → IsRequest words asked → Leads (plan_of asked a b) told → Leads (words_plan words a b) told
+
+-- the words are no line, or an option has a value that it doesn't take
+abbrev pub BadWordsAreRefused : World → World → Type 0
+BadWordsAreRefused a b = (words : List (List ℕ)) (usage : Usage)
+    → BlamesWords words (words_error.Usage usage)
+    → Leads (words_plan words a b) (Err (Refused (BadWords (usage_text usage))))
+
+-- ---- the law
+
+-- what is told in the first world decides how a command ends that leaves the second
+pub record IsDecided (a b : World) : Type 0 where
+  pub done : FreeIsDone a b
+  pub taken : TakenIsRefused a b
+  pub no_snapshot : EmptyIsRefused a b
+  pub bad_file_name : BadKeyIsRefused a b
+  pub no_config : BadConfigIsRefused a b
+  pub unbuilt : UnbuiltIsRefused a b
+  pub words : WordsDecide a b
+  pub bad_words : BadWordsAreRefused a b
