@@ -1,5 +1,5 @@
 -- How the work on a node ends, out of its parts.
-use Rattle.std.proofs.Common.{◌≡◌, ◌≤◌, ◌+◌, ◌-◌, ◌^◌, min, ℕ, List, [], Option, refl, ◌∙◌, subst, arith, Result, Ok, Err, IfOk}
+use Rattle.std.proofs.Common.{◌≡◌, ◌≤◌, ◌+◌, ◌-◌, ◌^◌, min, ℕ, List, [], Option, refl, ◌∙◌, subst, arith, Result, Ok, Err, IfOk, OnOk}
 use Rattle.med_base.specs.declared.key.FileKey.{FileKey}
 use Rattle.med_base.specs.Content.{Content}
 use Rattle.med_manifest.specs.declared.manifest.FileRecord.{FileRecord}
@@ -17,6 +17,11 @@ pub ok_with : {T E : Type 0} (r : Result T E) (P Q : T → Type 0) → ((x : T) 
     → IfOk r Q
 ok_with (Ok x) P Q f h = f x h
 ok_with (Err e) P Q f h = tt
+
+-- what holds holds after a good answer
+pub on_ok : {T E : Type 0} {P : Type 0} (r : Result T E) → P → OnOk r P
+on_ok (Ok x) h = h
+on_ok (Err e) h = tt
 
 -- ---- counts
 

@@ -1,9 +1,10 @@
 // A full backup of one node into the bucket.
-ghost use Rattle.std.specs.Prelude.{◌≡◌, ◌≤◌, IfOk};
+ghost use Rattle.std.specs.Prelude.{◌≡◌, ◌≤◌, IfOk, OnOk};
+ghost use Rattle.med_outside.specs.Counts.{opened_once};
 ghost use Rattle.med_outside.specs.Ends.{Ends, seen};
 ghost use Rattle.med_outside.specs.World.{rose_of_node};
 ghost use Rattle.med_backup.specs.BackedUp.{IsBackedUpFrom};
-ghost use Rattle.med_backup.specs.Plan.{IsMadeBy, LeavesOpen, LeavesNode, snapshot_plan, opened_plan, node_plan, stop_of};
+ghost use Rattle.med_backup.specs.Plan.{IsMadeBy, LeavesOpen, LeavesNode, snapshot_plan, opened_plan, node_plan, stop_of, tagged_at};
 ghost use Rattle.med_backup.specs.NodeConfig.{node_config_of, opened_at, snap_at};
 
 use crate::copy::copy_found;
@@ -64,6 +65,8 @@ fn backup_opened<S: Storage, N: Nodes>(
         (S.state store.old) (S.state store.new) (S.stood_since store.old) (S.stood_since store.new))
         (opened_plan (node_config_of config.now) name.now (N.state nodes.old).snaps
         (S.state store.old).content) (seen (λ files. files.items) (stop_of name.now) result) }
+    ensures snapshot { OnOk result ((N.state nodes.new).counts
+        ≡ opened_once (tagged_at (node_config_of config.now) name.now) (N.state nodes.old).counts) }
     ensures same { (N.state nodes.new).snaps ≡ (N.state nodes.old).snaps }
     ensures nodes_later { (N.state nodes.old).faults ≤ (N.state nodes.new).faults }
     ensures store_later { (S.state store.old).faults ≤ (S.state store.new).faults }
@@ -104,6 +107,8 @@ pub fn backup_node<S: Storage, N: Nodes>(
         (S.state store.old) (S.state store.new) (S.stood_since store.old) (S.stood_since store.new))
         (node_plan (node_config_of config.now) name.now (N.state nodes.old).snaps
         (S.state store.old).content) (seen (λ files. files.items) (stop_of name.now) result) }
+    ensures snapshot { OnOk result ((N.state nodes.new).counts
+        ≡ opened_once (tagged_at (node_config_of config.now) name.now) (N.state nodes.old).counts) }
     ensures same { (N.state nodes.new).snaps ≡ (N.state nodes.old).snaps }
     ensures nodes_later { (N.state nodes.old).faults ≤ (N.state nodes.new).faults }
     ensures store_later { (S.state store.old).faults ≤ (S.state store.new).faults }

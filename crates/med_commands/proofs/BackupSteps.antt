@@ -10,6 +10,7 @@ use Rattle.med_manifest.specs.Manifest.{IsManifest}
 use Rattle.med_manifest.specs.Written.{manifest_text}
 use Rattle.med_base.specs.Content.{Content}
 use Rattle.med_outside.specs.Causes.{RoseOrFull}
+use Rattle.med_outside.specs.Counts.{opened_once}
 use Rattle.med_outside.specs.Effects.{after_all}
 use Rattle.med_outside.specs.Ends.{Device, Files, Nodes, Storage, Output, Memory, StopsAt, Steps, Ends, seen}
 use Rattle.med_outside.specs.Snapshot.{Snapshot}
@@ -20,7 +21,7 @@ use Rattle.med_words.specs.Request.{Action, Asked, backup}
 use Rattle.med_backup.specs.BackedUp.{IsBackedUpFrom}
 use Rattle.med_backup.specs.Backup.{FinishesBackup, IsBackupOf}
 use Rattle.med_backup.specs.Copies.{Copy, key_of, records_of, backup_puts, AreOf}
-use Rattle.med_backup.specs.Plan.{Passed, stop_of as stop_of_error}
+use Rattle.med_backup.specs.Plan.{Passed, tagged_at, stop_of as stop_of_error}
 use Rattle.med_backup.specs.NodeConfig.{NodeConfig, opened_at, snap_at}
 use Rattle.med_backup.specs.declared.look.BackupError.{BackupError}
 use Rattle.med_backup.specs.declared.look.BackupError.TheVariants as error
@@ -89,8 +90,9 @@ and_told (Some s) P Q f h = f s h
 pub done_of : (node_config : NodeConfig) (n : List ℕ) (a b : World) (files : List FileRecord)
     → IsBackedUpFrom node_config.before node_config.node n (snap_at a.nodes.snaps node_config n) (opened_at node_config a.store)
     b.store a.stood b.stood files
+    → b.nodes.counts ≡ opened_once (tagged_at node_config n) a.nodes.counts
     → IsDone node_config n a b files
-done_of node_config n a b files m =
+done_of node_config n a b files m counts =
     let held = snap_at a.nodes.snaps node_config n in
     let old = a.store in
     let new = b.store in
@@ -122,6 +124,7 @@ done_of node_config n a b files m =
           keys_are m.found.can.schema_is);
       walked = m.found.walked;
       was_free = m.found.was_free;
+      snapshot = counts;
       made = m;
     }
 

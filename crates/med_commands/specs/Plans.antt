@@ -3,13 +3,14 @@
 use Rattle.std.specs.Prelude.{◌≡◌, ◌⊎◌, ℕ, List, [], ◌∷◌, Option, Some, None, IfSome, Result, Ok, Err}
 use Rattle.med_base.specs.Content.{Content}
 use Rattle.med_backup.specs.Backup.{FinishesBackup, IsBackupOf}
-use Rattle.med_backup.specs.Plan.{Passed, Left, LeavesNode, node_plan}
+use Rattle.med_backup.specs.Plan.{Passed, Left, LeavesNode, node_plan, tagged_at}
 use Rattle.med_backup.specs.BackedUp.{IsBackedUpFrom}
 use Rattle.med_backup.specs.NodeConfig.{NodeConfig, node_config_of, opened_at, snap_at}
 use Rattle.med_backup.specs.Taken.{IsFree}
 use Rattle.med_backup.specs.Walked.{CanBeWalked}
 use Rattle.med_ini.specs.declared.config.Config.{Config}
 use Rattle.med_manifest.specs.declared.manifest.FileRecord.{FileRecord}
+use Rattle.med_outside.specs.Counts.{opened_once}
 use Rattle.med_outside.specs.Ends.{Device, Files, Output, Memory, Refusal, BadWords, NotBuilt, BadConfig, Plan, last, step, then, said_as}
 use Rattle.med_outside.specs.Snapshot.{Snapshot}
 use Rattle.med_outside.specs.State.{State, ChangesWithin}
@@ -74,7 +75,7 @@ IfTold old new P = IfSome old (λ c. IfSome new (λ d. P c d))
 
 -- The backup of the name is finished and whole and is one of the snapshot, whose keys are names of
 -- files; the name was free, and nothing else changed. Exactly its puts were made, in the bucket of
--- the site, which was opened for it.
+-- the config file, which was opened for it, and exactly its snapshot was opened, and closed again.
 pub record IsDone (node_config : NodeConfig) (n : List ℕ) (a b : World) (files : List FileRecord) : Type 0 where
   pub finished : IfTold a.store.content b.store.content
       (λ c d. FinishesBackup node_config.before node_config.node n c d files)
@@ -83,6 +84,7 @@ pub record IsDone (node_config : NodeConfig) (n : List ℕ) (a b : World) (files
       (λ s. IsBackupOf node_config.before node_config.node n s c d files))
   pub walked : IfSome (snap_at a.nodes.snaps node_config n) CanBeWalked
   pub was_free : IsFree node_config.before node_config.node n a.store.content
+  pub snapshot : b.nodes.counts ≡ opened_once (tagged_at node_config n) a.nodes.counts
   pub made : IsBackedUpFrom node_config.before node_config.node n (snap_at a.nodes.snaps node_config n)
       (opened_at node_config a.store) b.store a.stood b.stood files
 

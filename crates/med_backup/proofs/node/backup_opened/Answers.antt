@@ -5,8 +5,19 @@ use Rattle.med_outside.specs.World.{rose_of_node}
 use Rattle.med_outside.proofs.EndsLemmas.{carried_as}
 use Rattle.med_backup.specs.Plan.{ChangeLists, IsMadeBy, LeavesOpen, Worked, snapshot_plan, stop_of}
 use Rattle.med_backup.specs.NodeConfig.{node_config_of, snap_at, tag_of}
-use Rattle.med_backup.proofs.NodeSteps.{closed_rose}
+use Rattle.med_backup.proofs.NodeSteps.{closed_rose, on_ok}
 use Rattle.med_backup.proofs.node.backup_opened.Goals as goal
+
+pub returns-clause-snapshot : goal.returns-clause-snapshot
+returns-clause-snapshot g c =
+    let node_config = node_config_of c.args.config.now in
+    let tag : c.as_str-2.result.now ≡ tag_of c.args.name.now =
+    rw (c.as_str-2.ensures.value, c.in-Ok.ensures.ok, c.as_str.ensures.value) refl in
+    let counts : (g.N.Nodes.state c.close.new.self).counts ≡ opened_once
+    (tagged c.as_str-root.result.now c.args.config.now.node c.as_str-2.result.now)
+    (g.N.Nodes.state c.args.nodes.now).counts =
+    c.close.ensures.counts ∙ ap with_closed c.in-Ok-open.ensures.counts in
+    on_ok c.backup_snapshot-answer.result (rw (c.as_str-root.ensures.value, tag) at counts)
 
 pub returns-clause-ends : goal.returns-clause-ends
 returns-clause-ends g c =
