@@ -8,14 +8,16 @@ SHELL := /bin/bash
 test:
 	@.ci/run
 
-# Builds the proved program, and backs up the example node of crates/medusa/data in a new folder.
+# Proves and builds the program, and backs up the example node of crates/medusa/data in a new folder.
 run:
 	@room=$$(mktemp -d)
 	trap 'rm -rf "$$room"' EXIT
-	echo 'proving and building crates/medusa' >&2
-	# Without words the program answers its usage with status 2, and writes no file.
+	echo 'proving medusa and the crates below it: from nothing a quarter of an hour and more' >&2
+	# Without words the program answers its usage with status 2, and writes no file. Of what rt says the
+	# crates are shown, each when it is proved.
 	status=0
-	(cd crates/medusa && rt run) > "$$room/said" 2>&1 || status=$$?
+	(cd crates/medusa && rt run) 2>&1 | tee "$$room/said" |
+		sed -un '/^crate /h; /^logic=proved /{g; s/^crate \([^:]*\).*/\1: proved/p}' >&2 || status=$$?
 	if [ "$$status" != 2 ] || ! grep -q '^medusa: usage: ' "$$room/said"; then
 		cat "$$room/said" >&2
 		exit 1
