@@ -1,8 +1,8 @@
 //! The commands, and the top call that the program makes.
 //!
 //! `medusa_main` reads the words, backs up one node into the bucket and prints one line, or tells
-//! its fault in one line. Its contract has a clause for each exit status.
-//! Read `specs/Headline.antt` first, then the clauses of `medusa_main`.
+//! its fault in one line. Its contract is one clause: the command ended as its plan has it.
+//! Read `specs/Plans.antt` first, then `specs/Headline.antt`.
 #![tactic(auto)]
 
 mod backup;
