@@ -12,9 +12,9 @@ use Rattle.med_base.specs.KeyOrder.{key_total}
 use Rattle.med_base.specs.Layout.{backup_folder, own_path, meta_path, meta_file, key_text}
 use Rattle.med_base.proofs.Folders.{is_under-append}
 use Rattle.med_base.proofs.Paths.{component_no_slash, own_path_injective, same_rest}
+use Rattle.med_base.proofs.Lists.{all_unmap}
 use Rattle.std.specs.declared.cmp.Ordering.TheVariants.{Less}
 use Rattle.med_backup.specs.Copies.{Copy, key_of, put_of}
-use Rattle.med_backup.proofs.Lists.{all_unmap}
 use Rattle.med_backup.proofs.Stands.{NoneHas}
 
 first_byte : List ℕ → ℕ

@@ -1,42 +1,31 @@
 -- What all puts of a backup made, and what the manifest asks of the records.
-use Rattle.std.proofs.Common.{◌≡◌, ◌||◌, inl, inr, ℕ, Bool, true, false, List, [], ◌∷◌, ◌++◌, map, Option, Some, None, IfSome, refl, sym, ap, ◌∙◌, subst, append_assoc, append-nil}
-use Rattle.std.specs.Prelude.{is_some, unwrap_or, IsTrue}
+use Rattle.std.proofs.Common.{◌≡◌, ◌||◌, inr, ℕ, true, List, [], ◌∷◌, ◌++◌, map, Option, IfSome, refl, sym, ap, ◌∙◌, subst}
+use Rattle.std.specs.Prelude.{IsTrue}
 use Rattle.std.specs.List.{AllByRecursion, list_any}
 use Rattle.std.specs.Ordering.{is_eq}
 use Rattle.std.specs.Cmp.{tied_itself}
-use Rattle.std.specs.FinMap.{FinMap, get, keys, contains_key, contains_key-keys}
+use Rattle.std.specs.FinMap.{FinMap, keys, contains_key, contains_key-keys}
 use Rattle.med_base.specs.declared.key.FileKey.{FileKey}
 use Rattle.med_base.specs.declared.layout.MetaKind.TheVariants.{Schema, Manifest}
-use Rattle.med_base.specs.Content.{Content}
 use Rattle.med_base.specs.Key.{key_cmp, key_eq, IsKey}
 use Rattle.med_base.specs.KeyOrder.{key_total}
 use Rattle.med_base.specs.Layout.{meta_path}
 use Rattle.med_manifest.specs.declared.manifest.FileRecord.{FileRecord}
 use Rattle.med_manifest.specs.Manifest.{IsManifest, IsPathOf}
 use Rattle.med_manifest.specs.Written.{manifest_text}
-use Rattle.med_outside.specs.Effects.{Effect, Stores}
+use Rattle.med_outside.specs.Effects.{Stores}
 use Rattle.med_outside.specs.Snapshot.{Snapshot, HasKey}
 use Rattle.med_outside.specs.State.{State, ChangesWithin, History}
 use Rattle.med_outside.proofs.Passing.{moves_on}
 use Rattle.med_backup.specs.BackedUp.{CanBeCopied, IsCopied}
-use Rattle.med_backup.specs.Copies.{Copy, key_of, put_of, records_of, backup_puts, AreOf}
+use Rattle.med_backup.specs.Copies.{Copy, put_of, records_of, backup_puts}
 use Rattle.med_backup.specs.Placing.{PlacesAll}
-use Rattle.med_backup.specs.Taken.{IsFree}
-use Rattle.std.proofs.lemmas.List.{map-append}
-use Rattle.med_base.proofs.Lists.{all_split}
-use Rattle.med_backup.proofs.Lists.{all_with, all_unmap}
-use Rattle.med_backup.proofs.Placed.{none_of, of_both}
-
-pub told_with : {A : Type 0} (held : Option A) (P Q : A → Type 0) → ((s : A) → P s → Q s)
-    → IfSome held P → IfSome held Q
-told_with None P Q f h = tt
-told_with (Some s) P Q f h = f s h
+use Rattle.std.proofs.lemmas.Bool.{or_right}
+use Rattle.std.proofs.lemmas.Option.{IfSome_then}
+use Rattle.med_base.proofs.Lists.{all_with, all_unmap}
+use Rattle.med_backup.proofs.Finished.{keys_of_records}
 
 -- ---- each key of the snapshot has a file
-
-or_true : (b : Bool) (x : Bool) → x ≡ true → (b || x) ≡ true
-or_true true x e = refl
-or_true false x e = e
 
 same_key : (k : FileKey) → key_eq k k ≡ true
 same_key k = ap is_eq (tied_itself key_total k)
@@ -46,7 +35,7 @@ all_found [] = tt
 all_found (k ∷ ks) = (
   ap (λ b. b || list_any (key_eq k) ks) (same_key k),
   all_with (λ j. list_any (key_eq j) ks ≡ true) (λ j. list_any (key_eq j) (k ∷ ks) ≡ true)
-      (λ j e. or_true (key_eq j k) _ e) ks (all_found ks),
+      (λ j e. or_right (key_eq j k) _ e) ks (all_found ks),
 )
 
 all_contained : {X : Type 0} (m : FinMap key_cmp X)
@@ -58,8 +47,8 @@ all_contained m =
 pub all_have : (held : Option Snapshot) (order : List FileKey)
     → IfSome held (λ s. order ≡ keys s.files)
     → IfSome held (λ s. AllByRecursion (λ k. HasKey k s) order)
-all_have held order is = told_with held _ _
-    (λ s e. subst (AllByRecursion (λ k. HasKey k s)) (sym e) (all_contained s.files)) is
+all_have held order is = IfSome_then held is
+    (λ s e. subst (AllByRecursion (λ k. HasKey k s)) (sym e) (all_contained s.files))
 
 module _ (before f n : List ℕ) (held : Option Snapshot) where
   -- all puts but the last one, and the last
@@ -105,17 +94,12 @@ module _ (before f n : List ℕ) (held : Option Snapshot) where
 
   -- ---- what the manifest asks of the records
 
-  keys_recorded : (copies : List Copy)
-      → map (λ (r : FileRecord). r.key) (records_of before f n copies) ≡ map key_of copies
-  keys_recorded [] = refl
-  keys_recorded (c ∷ copies) = ap (λ l. c.key ∷ l) (keys_recorded copies)
-
   pub files_keys : (order : List FileKey) (s1 s2 : State) (p1 p2 : History)
       (files : List FileRecord)
       → PlacesAll before f n held order s1 s2 p1 p2 files
       → map (λ (r : FileRecord). r.key) files ≡ order
   files_keys order s1 s2 p1 p2 files all = ap (map (λ (r : FileRecord). r.key)) all.files_are
-      ∙ keys_recorded all.places.copies ∙ all.places.keys_are
+      ∙ keys_of_records before f n all.places.copies ∙ all.places.keys_are
 
   own_paths : (copies : List Copy)
       → AllByRecursion (λ (r : FileRecord). IsPathOf before f n r.key r.path)

@@ -26,6 +26,11 @@ abbrev Holds : (before f n : List ℕ) → Content → Copy → Type 0
 Holds before f n d copy = get d (own_path before f n copy.key) ≡ Some
     (record { bytes = copy.bytes; second = copy.second })
 
+pub keys_of_records : (before f n : List ℕ) (copies : List Copy)
+    → map (λ (r : FileRecord). r.key) (records_of before f n copies) ≡ map key_of copies
+keys_of_records before f n [] = refl
+keys_of_records before f n (k ∷ copies) = ap (λ l. k.key ∷ l) (keys_of_records before f n copies)
+
 module _ (before f n schema : List ℕ) (at end : ℕ) (c : Content)
     (free : objects_under (backup_folder before f n) c ≡ []) where
   abbrev texts : List Copy → List ℕ
@@ -186,11 +191,6 @@ module _ (before f n schema : List ℕ) (at end : ℕ) (c : Content)
     files_of s d copies of.1 stand.1,
   )
 
-  keys_of_records : (copies : List Copy)
-      → map (λ (r : FileRecord). r.key) (records_of before f n copies) ≡ map key_of copies
-  keys_of_records [] = refl
-  keys_of_records (k ∷ copies) = ap (λ l. k.key ∷ l) (keys_of_records copies)
-
   pub backup_of : (s : Snapshot) (copies : List Copy) → AreRising (map key_of copies)
       → AllByRecursion IsKey (map key_of copies)
       → IsManifest before f n (texts copies) (records_of before f n copies)
@@ -199,7 +199,7 @@ module _ (before f n schema : List ℕ) (at end : ℕ) (c : Content)
       → IsBackupOf before f n s c (left copies) (records_of before f n copies)
   backup_of s copies rising names manifest of keys_are schema_is = record {
     manifest = has_manifest copies manifest;
-    keys_are = keys_of_records copies ∙ keys_are;
+    keys_are = keys_of_records before f n copies ∙ keys_are;
     files_are = files_of s (left copies) copies of (all_stand copies rising names);
     schema_is = subst (HoldsBytes (left copies) (meta_path before f n Schema)) schema_is
         (schema_stands copies);

@@ -9,6 +9,8 @@ use Rattle.std.specs.FinMap.{FinMap, entries, entries_sorted, empty, insert, get
 use Rattle.std.specs.FinMap.Entries.{put, find, is_sorted, below_all, by_order}
 use Rattle.std.specs.BTreeMap.{insert_entry}
 use Rattle.std.proofs.lemmas.List.Sums.{sum_by-cons}
+use Rattle.std.proofs.lemmas.List.{nil_from_length}
+use Rattle.std.proofs.Math.Bool.{or-false}
 use Rattle.med_base.specs.declared.key.FileKey.{FileKey}
 use Rattle.med_base.specs.Key.{key_cmp, key_eq, AreRising, IsKey}
 use Rattle.med_base.specs.KeyOrder.{key_total, key_exact}
@@ -18,12 +20,9 @@ use Rattle.med_backup.specs.Walked.{added, CanBeWalked}
 abbrev Keys : Type 0
 Keys = FinMap key_cmp (Unit {0})
 
-no_length : {A : Type 0} (es : List A) → length es ≡ 0 → es ≡ []
-no_length [] e = refl
-no_length (x ∷ es) e = absurd (omega arith)
-
 pub nothing_yet : entries (empty {K = FileKey} {X = Unit {0}} {R = key_cmp}) ≡ []
-nothing_yet = no_length (entries empty) (sym (len-entries empty) ∙ len-empty key_cmp (Unit {0}))
+nothing_yet =
+    nil_from_length (entries empty) (sym (len-entries empty) ∙ len-empty key_cmp (Unit {0}))
 
 alike : {A : Type 0} (r : Ordering) (a b c : A) → match_ordering r a b c ≡ by_order r a b c
 alike Less a b c = refl
@@ -125,13 +124,9 @@ contains_insert : (m : Keys) (k q : FileKey)
     → contains_key (insert m k tt) q ≡ (key_eq q k || contains_key m q)
 contains_insert m k q = ap is_some (get-insert key_total m k tt q) ∙ some_or (key_eq q k) (get m q)
 
-or_false : (b : Bool) → (b || false) ≡ b
-or_false true = refl
-or_false false = refl
-
 contains_added : (m : Keys) (ks : List FileKey) (q : FileKey)
     → contains_key (added m ks) q ≡ (contains_key m q || list_any (key_eq q) ks)
-contains_added m [] q = sym (or_false (contains_key m q))
+contains_added m [] q = sym (or-false (contains_key m q))
 contains_added m (k ∷ ks) q =
     contains_added (insert m k tt) ks q
     ∙ ap (λ b. b || list_any (key_eq q) ks) (contains_insert m k q)

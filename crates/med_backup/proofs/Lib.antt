@@ -3,7 +3,6 @@ pub mod Copied
 pub mod CopySteps
 pub mod Finished
 pub mod KeyLists
-pub mod Lists
 pub mod LookSteps
 pub mod NodeSteps
 pub mod Placed

@@ -1,5 +1,5 @@
 -- How the work on a node ends, out of its parts.
-use Rattle.std.proofs.Common.{◌≡◌, ◌≤◌, ◌+◌, ◌-◌, ◌^◌, min, ℕ, List, [], Option, refl, ◌∙◌, subst, arith, Result, Ok, Err, IfOk, OnOk}
+use Rattle.std.proofs.Common.{◌≡◌, ◌≤◌, ◌+◌, ◌-◌, ◌^◌, min, ℕ, List, [], Option, ◌∙◌, subst, arith, Result, Ok, Err, OnOk}
 use Rattle.med_base.specs.declared.key.FileKey.{FileKey}
 use Rattle.med_base.specs.Content.{Content}
 use Rattle.med_manifest.specs.declared.manifest.FileRecord.{FileRecord}
@@ -12,11 +12,6 @@ use Rattle.med_backup.specs.BackedUp.{IsFound, IsCopied, IsBackedUpFrom}
 use Rattle.med_backup.specs.Copies.{backup_puts}
 use Rattle.med_backup.specs.Plan.{ChangeLists, IsMadeBy, Left, Unopened, Opened, Worked, LeavesOpen, LeavesNode}
 use Rattle.med_backup.specs.NodeConfig.{NodeConfig, opened_at}
-
-pub ok_with : {T E : Type 0} (r : Result T E) (P Q : T → Type 0) → ((x : T) → P x → Q x) → IfOk r P
-    → IfOk r Q
-ok_with (Ok x) P Q f h = f x h
-ok_with (Err e) P Q f h = tt
 
 -- what holds holds after a good answer
 pub on_ok : {T E : Type 0} {P : Type 0} (r : Result T E) → P → OnOk r P

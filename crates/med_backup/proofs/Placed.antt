@@ -4,7 +4,6 @@ use Rattle.std.specs.List.{AllByRecursion}
 use Rattle.std.specs.FinMap.{get}
 use Rattle.med_base.specs.declared.key.FileKey.{FileKey}
 use Rattle.med_base.specs.declared.fingerprint.Fingerprint.{Fingerprint}
-use Rattle.med_base.specs.Content.{Content}
 use Rattle.med_base.specs.Fingerprint.{fingerprint_of}
 use Rattle.med_base.specs.Layout.{own_path}
 use Rattle.med_manifest.specs.declared.manifest.FileRecord.{FileRecord}
@@ -16,8 +15,7 @@ use Rattle.med_outside.proofs.Passing.{moves_on}
 use Rattle.med_backup.specs.Copies.{Copy, key_of, put_of, record_of, AreOf}
 use Rattle.med_backup.specs.Placing.{Places, PlacesAll, PlacesOne, PlacesSome}
 use Rattle.std.proofs.lemmas.List.{map-append}
-use Rattle.med_base.proofs.Lists.{all_append}
-use Rattle.med_backup.proofs.Lists.{all_at}
+use Rattle.med_base.proofs.Lists.{all_append, all_at}
 
 pub none_of : (held : Option Snapshot) → AreOf held []
 none_of None = tt

@@ -1,31 +1,22 @@
 -- What stands after puts: the last object of each path, and what was there of every other path.
-use Rattle.std.proofs.Common.{◌≡◌, ℕ, Bool, true, false, cond, List, [], ◌∷◌, ◌++◌, Some, refl, ap, ◌∙◌}
+use Rattle.std.proofs.Common.{◌≡◌, ℕ, true, false, cond, List, [], ◌∷◌, ◌++◌, Some, refl, ap, ◌∙◌}
 use Rattle.std.specs.Ordering.{nat_cmp, is_eq, eq_by_cmp}
-use Rattle.std.specs.declared.cmp.Ordering.{Ordering}
-use Rattle.std.specs.declared.cmp.Ordering.TheVariants.{Less, Equal, Greater}
 use Rattle.std.specs.Cmp.Lexicographic.{slice_cmp, nat_list_cmp_total}
-use Rattle.std.specs.Cmp.{tied_itself}
+use Rattle.std.specs.Cmp.{Equal-is, tied_itself}
 use Rattle.std.specs.FinMap.{get, get-insert}
 use Rattle.std.specs.List.{AllByRecursion}
 use Rattle.std.proofs.lemmas.Map.Lookups.{exact_bytes}
+use Rattle.std.proofs.lemmas.Bool.{false_from_ne_true}
 use Rattle.med_base.specs.Content.{Content}
 use Rattle.med_outside.specs.Effects.{Effect, Stores, made, applied}
 use Rattle.med_outside.proofs.Passing.{applied-append}
 
-tie : (r : Ordering) (P : Type 0) → (r ≡ Equal → P) → is_eq r ≡ true → P
-tie Less P f e = absurd (cc)
-tie Equal P f e = f refl
-tie Greater P f e = absurd (cc)
+unequal_paths : (p q : List ℕ) → (p ≡ q → ⊥) → eq_by_cmp (slice_cmp nat_cmp) p q ≡ false
+unequal_paths p q ne =
+    false_from_ne_true _ (λ e. ne (exact_bytes p q ((Equal-is (slice_cmp nat_cmp p q)).0 e)))
 
-apart : (b : Bool) → (b ≡ true → ⊥) → b ≡ false
-apart true h = absurd (h refl)
-apart false h = refl
-
-other : (p q : List ℕ) → (p ≡ q → ⊥) → eq_by_cmp (slice_cmp nat_cmp) p q ≡ false
-other p q ne = apart _ (λ e. ne (tie (slice_cmp nat_cmp p q) (p ≡ q) (exact_bytes p q) e))
-
-same : (p : List ℕ) → eq_by_cmp (slice_cmp nat_cmp) p p ≡ true
-same p = ap is_eq (tied_itself nat_list_cmp_total p)
+path_equals_itself : (p : List ℕ) → eq_by_cmp (slice_cmp nat_cmp) p p ≡ true
+path_equals_itself p = ap is_eq (tied_itself nat_list_cmp_total p)
 
 abbrev pub path_of : Effect → List ℕ
 path_of (Stores path bytes second) = path
@@ -41,7 +32,7 @@ stays p (Stores path bytes second ∷ xs) c none =
     stays p xs (made (Stores path bytes second) c) none.1
     ∙ get-insert nat_list_cmp_total c path (record { bytes = bytes; second = second }) p
     ∙ ap (λ b. cond b (Some (record { bytes = bytes; second = second })) (get c p))
-    (other p path none.0)
+    (unequal_paths p path none.0)
 
 pub put_stays : (p bytes : List ℕ) (second : ℕ) (xs : List Effect) (c : Content) → NoneHas p xs
     → get (applied (Stores p bytes second ∷ xs) c) p ≡ Some
@@ -49,7 +40,8 @@ pub put_stays : (p bytes : List ℕ) (second : ℕ) (xs : List Effect) (c : Cont
 put_stays p bytes second xs c none =
     stays p xs (made (Stores p bytes second) c) none
     ∙ get-insert nat_list_cmp_total c p (record { bytes = bytes; second = second }) p
-    ∙ ap (λ b. cond b (Some (record { bytes = bytes; second = second })) (get c p)) (same p)
+    ∙ ap (λ b. cond b (Some (record { bytes = bytes; second = second })) (get c p))
+    (path_equals_itself p)
 
 -- the object of the last put
 pub last_put : (p bytes : List ℕ) (second : ℕ) (xs : List Effect) (c : Content)

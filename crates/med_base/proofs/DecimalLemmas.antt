@@ -1,22 +1,18 @@
 -- Texts that don't parse are no decimal numbers.
-use Rattle.std.proofs.Common.{◌≡◌, ◌<◌, ◌&&◌, ℕ, Bool, true, false, List, length, Err, refl, arith, rules, nat_lt, nat_le}
+use Rattle.std.proofs.Common.{◌≡◌, ◌<◌, ◌&&◌, ℕ, true, false, List, length, Err, arith, rules, nat_lt, nat_le}
 use Rattle.std.specs.Char.{is_ascii_digit}
 use Rattle.std.specs.List.{list_all}
 use Rattle.std.specs.Str.Parse.{digits_value, ParsesUnsigned}
-use Rattle.std.proofs.lemmas.Bool.{and_parts, ltb-true, leb-true}
+use Rattle.std.proofs.lemmas.Bool.{and_parts, ltb-true, leb-true, false_from_ne_true}
 use Rattle.std.proofs.lemmas.Str.Parse.{IsNumeralModel, numerals_by_value, parse_digits}
 use Rattle.med_base.specs.Decimal.{is_decimal}
 
 digits : IsNumeralModel (λ ds. list_all is_ascii_digit ds ≡ true) (digits_value 10)
 digits = numerals_by_value _ (search rules)
 
-not_true : (b : Bool) → (b ≡ true → ⊥) → b ≡ false
-not_true true h = absurd (h refl)
-not_true false h = refl
-
 pub unread : {E : Type 0} (places limit : ℕ) (text : List ℕ) (e : E) → limit < 4294967296
     → ParsesUnsigned 32 10 text (Err e) → is_decimal places limit text ≡ false
-unread places limit text e fits h = not_true (is_decimal places limit text) (λ is.
+unread places limit text e fits h = false_from_ne_true (is_decimal places limit text) (λ is.
     let some = nat_lt 0 (length text) in
     let all = list_all is_ascii_digit text in
     let ends = and_parts (all && some && nat_le (length text) places)

@@ -5,12 +5,13 @@ use Rattle.std.specs.Char.{digit_value}
 use Rattle.std.specs.Str.Parse.{digits_value, AllDigits, ParsesUnsigned}
 use Rattle.std.proofs.lemmas.Fmt.{decimal_is_IsNumeral, parse-decimal}
 use Rattle.std.proofs.lemmas.Slice.Eq.{bytes_eq-Decides}
+use Rattle.std.proofs.lemmas.Bool.{and_parts}
 use Rattle.med_base.specs.declared.kinds.IndexKind.{IndexKind}
 use Rattle.med_base.specs.declared.kinds.IndexKind.TheVariants.{Tokenmap, Manifest, Started, Finished, Differential}
 use Rattle.med_base.specs.Entries.{behind, between, around_last, second_of, with_second, timed, entry_of}
 use Rattle.med_base.specs.Kinds.{HasSecond}
 use Rattle.med_base.specs.Layout.{entry_file}
-use Rattle.med_base.proofs.Bools.{both, same_bytes, bytes_same}
+use Rattle.med_base.proofs.Bools.{same_bytes, bytes_same}
 use Rattle.med_base.proofs.Paths.{HasNoSlash}
 use Rattle.med_base.proofs.Slashes.{no_slash_by_test, no_slash-append}
 use Rattle.med_base.proofs.PieceLemmas.{behind_is, ahead_made, between_is, Lacks, around_made, around_is}
@@ -33,7 +34,7 @@ second_is digits n e = go (nat_lt v (2 ^ 64) && bytes_eq (decimal v) digits) ref
     go : (x : Bool) → (nat_lt v (2 ^ 64) && bytes_eq (decimal v) digits) ≡ x
         → cond x (Some v) None ≡ Some n → (digits ≡ decimal n) × (n < 2 ^ 64)
     go true is k =
-        let parts = both (nat_lt v (2 ^ 64)) (bytes_eq (decimal v) digits) is in
+        let parts = and_parts (nat_lt v (2 ^ 64)) (bytes_eq (decimal v) digits) is in
         let value : v ≡ n = cc in
         let small : v < 2 ^ 64 = ltb-true v (2 ^ 64) parts.0 in (
           sym (same_bytes (decimal v) digits parts.1) ∙ ap decimal value,

@@ -1,20 +1,18 @@
 -- What lies under a text, and that nothing lies under one where a listing is empty.
-use Rattle.std.proofs.Common.{◌≡◌, ◌&&◌, ℕ, Bool, true, false, cond, Option, Some, None, List, [], ◌∷◌, ◌++◌, take, length, refl, sym, ap, ◌∙◌, nat_eq, rules}
+use Rattle.std.proofs.Common.{◌≡◌, ◌&&◌, ℕ, true, cond, None, List, [], ◌∷◌, ◌++◌, refl, sym, ap, ◌∙◌}
 use Rattle.std.specs.Ordering.{nat_cmp}
-use Rattle.std.specs.Cmp.Lexicographic.{slice_cmp, pointwise}
-use Rattle.std.specs.FinMap.{get, entries, get-entries}
+use Rattle.std.specs.Cmp.Lexicographic.{slice_cmp}
+use Rattle.std.specs.FinMap.{get, get-entries}
 use Rattle.std.specs.FinMap.Entries.{find}
-use Rattle.med_base.specs.Content.{Content, Object, is_under, objects_under}
+use Rattle.std.proofs.lemmas.Bool.{eq-eqb}
+use Rattle.med_base.specs.Content.{Content, is_under, objects_under}
 use Rattle.med_base.specs.Part.{part_of}
 use Rattle.med_base.proofs.Parts.{entries-part_of, get-part_of}
-
-same_number : (b : ℕ) → nat_eq b b ≡ true
-same_number b = search rules
 
 -- a text with more behind it begins with the text
 pub is_under-append : (text rest : List ℕ) → is_under text (text ++ rest) ≡ true
 is_under-append [] rest = refl
-is_under-append (b ∷ text) rest = ap (λ v. v && is_under text (text ++ rest)) (same_number b)
+is_under-append (b ∷ text) rest = ap (λ v. v && is_under text (text ++ rest)) (eq-eqb b b refl)
     ∙ is_under-append text rest
 
 -- where no object lies under the text, every path that begins with it is free

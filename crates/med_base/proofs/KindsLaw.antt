@@ -12,9 +12,10 @@ use Rattle.med_base.proofs.Slashes.{slash_within, no_slash_by_test, whole, aroun
 use Rattle.med_base.proofs.PieceLemmas.{behind_is, behind_made}
 use Rattle.med_base.proofs.EntryLemmas.{then_is, map_is, entry_is}
 use Rattle.med_base.proofs.MetaLemmas.{latest_is, latest_found}
-use Rattle.med_base.proofs.NameLemmas.{none_by_test, fqdn_no_slash, backup_no_slash}
+use Rattle.med_base.proofs.NameLemmas.{fqdn_no_slash, backup_no_slash}
 use Rattle.med_base.proofs.KindsMade.{built_is_told, entry_if_fqdn, entry_flat, latest_flat}
 use Rattle.med_base.proofs.KindsTold.{pair_is, Told, by_cond, by_kind, no_builder, folder_flat, outside, node_told}
+use Rattle.med_base.proofs.Options.{none_by_test}
 
 some_if : {X : Type 0} (b : Bool) (o : Option X) (v : X) → cond b o None ≡ Some v → (b ≡ true)
     × (o ≡ Some v)

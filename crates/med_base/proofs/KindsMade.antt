@@ -1,5 +1,7 @@
 -- The kind of the path that a builder gives is what it was built from.
-use Rattle.std.proofs.Common.{◌≡◌, ◌&&◌, ◌∙◌, ℕ, Bool, true, false, cond, List, [], ◌∷◌, ◌++◌, codes, bytes_eq, Option, Some, None, is_none, option_map, option_and_then, unwrap_or, append_assoc, refl, sym, ap, ap₂}
+use Rattle.std.proofs.Common.{◌≡◌, ◌&&◌, ◌∙◌, ℕ, Bool, true, cond, List, [], ◌∷◌, ◌++◌, codes, bytes_eq, Option, Some, None, is_none, option_map, option_and_then, unwrap_or, append_assoc, refl, sym, ap, ap₂}
+use Rattle.std.proofs.lemmas.Bool.{cond-true, cond-false}
+use Rattle.std.proofs.lemmas.Option.{same_Some}
 use Rattle.med_base.specs.declared.key.FileKey.{FileKey}
 use Rattle.med_base.specs.declared.layout.MetaKind.{MetaKind}
 use Rattle.med_base.specs.declared.kinds.IndexKind.{IndexKind}
@@ -18,14 +20,6 @@ use Rattle.med_base.proofs.PieceLemmas.{behind_made}
 use Rattle.med_base.proofs.EntryLemmas.{entry_made, entry_no_slash}
 use Rattle.med_base.proofs.MetaLemmas.{meta_no_slash, meta_made, latest_no_slash, latest_made, latest_found}
 use Rattle.med_base.proofs.NameLemmas.{fqdn_no_slash, fqdn_not_index, backup_no_slash, backup_not_data}
-
-cond_true : {A : Type 0} (b : Bool) (x y : A) → b ≡ true → cond b x y ≡ x
-cond_true true x y e = refl
-cond_true false x y e = absurd (cc)
-
-cond_false : {A : Type 0} (b : Bool) (x y : A) → b ≡ false → cond b x y ≡ y
-cond_false true x y e = absurd (cc)
-cond_false false x y e = refl
 
 all_three : (a b c : Bool) → a ≡ true → b ≡ true → c ≡ true → (a && (b && c)) ≡ true
 all_three a b c ha hb hc = ap₂ (λ x y. x && (y && c)) ha hb ∙ hc
@@ -47,14 +41,10 @@ key_parts key h =
 key_made : (key : FileKey) → IsKey key → key_of (parts (nested key)) ≡ Some key
 key_made key h =
     ap key_of (key_parts key h)
-    ∙ cond_true (is_component key.keyspace && (is_component key.table && is_component key.file))
+    ∙ cond-true (is_component key.keyspace && (is_component key.table && is_component key.file))
     (Some key) None
     (all_three (is_component key.keyspace) (is_component key.table) (is_component key.file)
     (ap is_none h.keyspace) (ap is_none h.table) (ap is_none h.file))
-
--- a word of the layout as a component
-word : (w : List ℕ) (rest : List ℕ) → HasNoSlash w → parts (w ++ 47 ∷ rest) ≡ w ∷ parts rest
-word w rest h = parts_around w rest h
 
 pub shared_flat : (before f : List ℕ) (key : FileKey)
     → shared_path before f key ≡ before ++ (f ++ 47 ∷ (codes "data" ++ 47 ∷ nested key))
@@ -87,17 +77,17 @@ below_is before t = ap (λ o. unwrap_or (option_map (λ text. kind_below (parts 
 
 node_is : (f : List ℕ) (ps : List (List ℕ)) → IsFqdn f → kind_below (f ∷ ps) ≡ node_kind f ps
 node_is f ps h =
-    cond_false (bytes_eq f (codes "index")) (index_kind ps)
+    cond-false (bytes_eq f (codes "index")) (index_kind ps)
     (cond (is_none (fqdn_fault f)) (node_kind f ps) Other) (fqdn_not_index f h)
-    ∙ cond_true (is_none (fqdn_fault f)) (node_kind f ps) Other (ap is_none h)
+    ∙ cond-true (is_none (fqdn_fault f)) (node_kind f ps) Other (ap is_none h)
 
 backup_is : (f n : List ℕ) (ps : List (List ℕ)) → IsBackupName n
     → node_kind f (n ∷ ps) ≡ backup_kind f n ps
 backup_is f n ps h =
-    cond_false (bytes_eq n (codes "data"))
+    cond-false (bytes_eq n (codes "data"))
     (unwrap_or (option_map (Shared f) (key_of ps)) (Stray f None))
     (cond (is_none (backup_fault n)) (backup_kind f n ps) (Stray f None)) (backup_not_data n h)
-    ∙ cond_true (is_none (backup_fault n)) (backup_kind f n ps) (Stray f None) (ap is_none h)
+    ∙ cond-true (is_none (backup_fault n)) (backup_kind f n ps) (Stray f None) (ap is_none h)
 
 -- in the folder of a node, and in that of a backup
 pub under_node : (before f t : List ℕ) → IsFqdn f
@@ -164,10 +154,10 @@ entry_told before f n kind h m s =
     (no_slash_by_test (codes "backup_index") refl) (backup_no_slash n m)
     (entry_no_slash f kind (fqdn_no_slash f h) s))
     ∙ ap (λ o. unwrap_or o Other)
-    (cond_true (is_none (backup_fault n)) (option_and_then (entry_if_fqdn n) (entry_of name)) None
+    (cond-true (is_none (backup_fault n)) (option_and_then (entry_if_fqdn n) (entry_of name)) None
     (ap is_none m)
     ∙ ap (option_and_then (entry_if_fqdn n)) (entry_made f kind s)
-    ∙ cond_true (is_none (fqdn_fault f)) (Some (Entry f n kind)) None (ap is_none h))
+    ∙ cond-true (is_none (fqdn_fault f)) (Some (Entry f n kind)) None (ap is_none h))
 
 latest_told : (before f : List ℕ) (kind : LatestKind) → IsFqdn f
     → kind_of before (latest_path before f kind) ≡ Latest f kind
@@ -178,28 +168,25 @@ latest_told before f kind h =
     ∙ ap kind_below (entry_parts (codes "latest_backup") f name
     (no_slash_by_test (codes "latest_backup") refl) (fqdn_no_slash f h) (latest_no_slash kind))
     ∙ ap (λ o. unwrap_or o Other)
-    (cond_true (is_none (fqdn_fault f)) (option_map (Latest f) (latest_found name)) None
+    (cond-true (is_none (fqdn_fault f)) (option_map (Latest f) (latest_found name)) None
     (ap is_none h)
     ∙ ap (option_map (Latest f)) (latest_made kind))
 
-pub same_inside : (x y : List ℕ) → ◌≡◌ {A = Option (List ℕ)} (Some x) (Some y) → x ≡ y
-same_inside x y e = cc
-
 pub built_is_told : BuiltIsTold
 built_is_told before path (Shared f key) b =
-    ap (kind_of before) (sym (same_inside (shared_path before f key) path b.built))
+    ap (kind_of before) (sym (same_Some (shared_path before f key) path b.built))
     ∙ shared_told before f key b.valid.0 b.valid.1
 built_is_told before path (Own f n key) b =
-    ap (kind_of before) (sym (same_inside (own_path before f n key) path b.built))
+    ap (kind_of before) (sym (same_Some (own_path before f n key) path b.built))
     ∙ own_told before f n key b.valid.0 b.valid.1 b.valid.2
 built_is_told before path (Meta f n kind) b =
-    ap (kind_of before) (sym (same_inside (meta_path before f n kind) path b.built))
+    ap (kind_of before) (sym (same_Some (meta_path before f n kind) path b.built))
     ∙ meta_told before f n kind b.valid.0 b.valid.1
 built_is_told before path (Entry f n kind) b =
-    ap (kind_of before) (sym (same_inside (entry_path before f n kind) path b.built))
+    ap (kind_of before) (sym (same_Some (entry_path before f n kind) path b.built))
     ∙ entry_told before f n kind b.valid.0 b.valid.1 b.valid.2
 built_is_told before path (Latest f kind) b =
-    ap (kind_of before) (sym (same_inside (latest_path before f kind) path b.built))
+    ap (kind_of before) (sym (same_Some (latest_path before f kind) path b.built))
     ∙ latest_told before f kind b.valid
 built_is_told before path (Stray f n) b = let e : None ≡ Some path = b.built in absurd (cc)
 built_is_told before path Other b = let e : None ≡ Some path = b.built in absurd (cc)

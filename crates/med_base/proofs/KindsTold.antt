@@ -1,6 +1,7 @@
 -- Each path is of the kind that is told of it, and of no other.
 use Rattle.std.proofs.Common.{◌≡◌, ◌&&◌, ◌∙◌, ℕ, Bool, true, false, cond, List, [], ◌∷◌, ◌++◌, codes, bytes_eq, Option, Some, None, is_none, option_map, option_and_then, unwrap_or, append_assoc, refl, sym, subst, ap, true≢false}
 use Rattle.std.proofs.lemmas.Slice.Eq.{bytes_eq-Decides}
+use Rattle.std.proofs.lemmas.Bool.{and_parts}
 use Rattle.med_base.specs.declared.key.FileKey.{FileKey}
 use Rattle.med_base.specs.declared.layout.MetaKind.{MetaKind}
 use Rattle.med_base.specs.Key.{IsKey}
@@ -12,11 +13,11 @@ use Rattle.med_base.specs.Layout.{node_folder, meta_file}
 use Rattle.med_base.specs.Prefix.{parts}
 use Rattle.med_base.proofs.Paths.{HasNoSlash, same_parts, same_rest}
 use Rattle.med_base.proofs.Slashes.{slash_within, CutAt, whole, around, cut_at_slash, parts_whole, parts_around, pair_of_more}
-use Rattle.med_base.proofs.Bools.{both}
 use Rattle.med_base.proofs.EntryLemmas.{then_is}
 use Rattle.med_base.proofs.MetaLemmas.{meta_of_parts, meta_is}
-use Rattle.med_base.proofs.NameLemmas.{none_by_test, backup_no_slash}
+use Rattle.med_base.proofs.NameLemmas.{backup_no_slash}
 use Rattle.med_base.proofs.KindsMade.{built_is_told, nested, shared_flat, own_flat, meta_flat}
+use Rattle.med_base.proofs.Options.{none_by_test}
 
 -- ---- from the kind to the text
 
@@ -55,8 +56,8 @@ valid_key_is keyspace p key e = go (is_component keyspace && (is_component p.0 &
         → cond b (Some (record { keyspace = keyspace; table = p.0; file = p.1 })) None ≡ Some key
         → IsKey key × (keyspace ++ 47 ∷ (p.0 ++ 47 ∷ p.1) ≡ nested key)
     go true is k =
-        let first = both (is_component keyspace) (is_component p.0 && is_component p.1) is in
-        let rest = both (is_component p.0) (is_component p.1) first.1 in
+        let first = and_parts (is_component keyspace) (is_component p.0 && is_component p.1) is in
+        let rest = and_parts (is_component p.0) (is_component p.1) first.1 in
         let made : FileKey = record { keyspace = keyspace; table = p.0; file = p.1 } in
         let same : made ≡ key = cc in
         let valid : IsKey made = record {

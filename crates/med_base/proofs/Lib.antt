@@ -10,6 +10,7 @@ pub mod KindsTold
 pub mod Lists
 pub mod MetaLemmas
 pub mod NameLemmas
+pub mod Options
 pub mod Owners
 pub mod Parts
 pub mod Paths

@@ -1,7 +1,7 @@
 -- Lists: one around one of its items, what holds of each item, and two lists item by item.
-use Rattle.std.proofs.Common.{◌≡◌, ◌∙◌, ◌<◌, ◌≤◌, ◌+◌, ℕ, zero, suc, refl, sym, ap, ap₂, subst, arith, List, [], ◌∷◌, ◌++◌, map, length, take, drop, get_or, slice_get, Some, Contains}
+use Rattle.std.proofs.Common.{◌≡◌, ◌∙◌, ◌<◌, ◌≤◌, ◌+◌, ℕ, zero, suc, refl, sym, ap, ap₂, subst, arith, List, [], ◌∷◌, ◌++◌, map, length, take, drop, get_or, slice_get, Some, Contains, add-one}
 use Rattle.std.specs.List.{AllZip, AllByRecursion}
-use Rattle.std.proofs.lemmas.List.{map-append, take_more}
+use Rattle.std.proofs.lemmas.List.{map-append, take-map, take_more}
 
 -- ---- a list around one of its items
 
@@ -11,6 +11,11 @@ around [] i x lt at = absurd (omega arith)
 around {V} (v ∷ xs) zero x lt at = ap (λ (w : V). w ∷ xs) (sym at)
 around {V} (v ∷ xs) (suc i) x lt at = ap (λ (ws : List V). v ∷ ws) (around xs i x (omega arith) at)
 
+-- the same, by the place behind it
+pub split_at : {V : Type 0} (xs : List V) (i : ℕ) (x : V) → i < length xs → x ≡ get_or xs i x
+    → xs ≡ take i xs ++ x ∷ drop (i + 1) xs
+split_at xs i x lt at = rw add-one (around xs i x lt at)
+
 -- the same, seen through a function
 pub map_around : {V A : Type 0} (f : V → A) (xs : List V) (i : ℕ) (x : V) → i < length xs
     → x ≡ get_or xs i x → map f xs ≡ map f (take i xs) ++ f x ∷ map f (drop (suc i) xs)
@@ -18,11 +23,20 @@ map_around f xs i x lt at =
     ap (map f) (around xs i x lt at) ∙ map-append f (take i xs) (x ∷ drop (suc i) xs)
 
 -- what stands before an item, and the item
+pub take_next : {V : Type 0} (xs : List V) (i : ℕ) (x : V) → i < length xs → x ≡ get_or xs i x
+    → take (i + 1) xs ≡ take i xs ++ x ∷ []
+take_next xs i x lt at = take_more xs i x lt ∙ ap (λ v. take i xs ++ v ∷ []) (sym at)
+
 pub map_next : {V A : Type 0} (f : V → A) (xs : List V) (i : ℕ) (x : V) → i < length xs
     → x ≡ get_or xs i x → map f (take (i + 1) xs) ≡ map f (take i xs) ++ f x ∷ []
 map_next f xs i x lt at =
-    ap (map f) (take_more xs i x lt ∙ ap (λ v. take i xs ++ v ∷ []) (sym at))
-    ∙ map-append f (take i xs) (x ∷ [])
+    ap (map f) (take_next xs i x lt at) ∙ map-append f (take i xs) (x ∷ [])
+
+pub take_map : {V A : Type 0} (f : V → A) (xs : List V) (i : ℕ) (x : V) → i < length xs
+    → x ≡ get_or xs i x → take (i + 1) (map f xs) ≡ take i (map f xs) ++ f x ∷ []
+take_map f xs i x lt at =
+    take-map f (i + 1) xs ∙ map_next f xs i x lt at
+    ∙ ap (λ vs. vs ++ f x ∷ []) (sym (take-map f i xs))
 
 pub length_front : {V A : Type 0} (f : V → A) (xs : List V) (i : ℕ) → i ≤ length xs
     → length (map f (take i xs)) ≡ i
@@ -63,6 +77,22 @@ pub all_split : {A : Type 0} (P : A → Type 0) (xs ys : List A) → AllByRecurs
 all_split P [] ys all = (tt, all)
 all_split P (x ∷ xs) ys all =
     let rest = all_split P xs ys all.1 in ((all.0, rest.0), rest.1)
+
+pub all_at : {A : Type 0} (P : A → Type 0) (xs : List A) (i : ℕ) (x : A) → i < length xs
+    → x ≡ get_or xs i x → AllByRecursion P xs → P x
+all_at P [] i x lt at all = absurd (omega arith)
+all_at P (y ∷ ys) zero x lt at all = subst P (sym at) all.0
+all_at P (y ∷ ys) (suc i) x lt at all = all_at P ys i x (omega arith) at all.1
+
+pub all_with : {A : Type 0} (P Q : A → Type 0) → ((x : A) → P x → Q x) → (xs : List A)
+    → AllByRecursion P xs → AllByRecursion Q xs
+all_with P Q f [] all = tt
+all_with P Q f (x ∷ xs) all = (f x all.0, all_with P Q f xs all.1)
+
+pub all_unmap : {A B : Type 0} (f : A → B) (P : B → Type 0) (xs : List A)
+    → AllByRecursion P (map f xs) → AllByRecursion (λ x. P (f x)) xs
+all_unmap f P [] all = tt
+all_unmap f P (x ∷ xs) all = (all.0, all_unmap f P xs all.1)
 
 -- an item of which it doesn't hold
 pub not_all : {A : Type 0} (P : A → Type 0) (xs : List A) (at : ℕ) (x : A)

@@ -1,16 +1,14 @@
 -- The owner of a path is the node that it belongs to.
-use Rattle.std.proofs.Common.{◌≡◌, ◌∙◌, ℕ, Bool, List, [], ◌∷◌, ◌++◌, codes, bytes_eq, Option, Some, None, is_none, option_map, unwrap_or, refl, sym, subst, ap}
-use Rattle.med_base.specs.declared.layout.MetaKind.{MetaKind}
-use Rattle.med_base.specs.declared.key.FileKey.{FileKey}
+use Rattle.std.proofs.Common.{◌≡◌, ◌∙◌, ℕ, List, [], ◌∷◌, ◌++◌, codes, bytes_eq, Option, Some, None, is_none, refl, sym, subst, ap}
+use Rattle.std.proofs.lemmas.Option.{same_Some}
 use Rattle.med_base.specs.Names.{backup_fault}
-use Rattle.med_base.specs.Kinds.{Kind, Shared, Own, Meta, Entry, Latest, Stray, Other, IsFqdn, path_of, IsBuilt}
+use Rattle.med_base.specs.Kinds.{Kind, Shared, Own, Meta, Entry, Latest, Stray, Other, IsFqdn}
 use Rattle.med_base.specs.KindRelation.{IsOfKind}
 use Rattle.med_base.specs.Classify.{key_of, meta_of, backup_kind, node_kind, kind_of}
 use Rattle.med_base.specs.Layout.{node_folder, shared_path, own_path, meta_path, meta_file}
 use Rattle.med_base.specs.Part.{owner_in, owner_of, BelongsTo, lies_under, is_entry, is_latest, OwnersAreTold}
-use Rattle.med_base.specs.Prefix.{parts}
 use Rattle.med_base.proofs.Slashes.{has_parts}
-use Rattle.med_base.proofs.KindsMade.{built_is_told, same_inside, under_node, nested, shared_flat, own_flat, meta_flat}
+use Rattle.med_base.proofs.KindsMade.{built_is_told, under_node, nested, shared_flat, own_flat, meta_flat}
 use Rattle.med_base.proofs.KindsTold.{by_cond, by_option, folder_flat}
 use Rattle.med_base.proofs.KindsLaw.{kind_told}
 
@@ -59,28 +57,28 @@ under : (before path f text rest : List ℕ) → IsFqdn f
     → text ≡ before ++ (f ++ 47 ∷ rest) → BelongsTo before path f
 under before path f text rest valid built flat =
     lies_under rest valid
-    (sym (same_inside text path built) ∙ flat ∙ sym (folder_flat before f rest))
+    (sym (same_Some text path built) ∙ flat ∙ sym (folder_flat before f rest))
 
 owner_there : (before path : List ℕ) (k : Kind) (g : List ℕ) → IsOfKind before path k
     → owner_in k ≡ Some g → BelongsTo before path g
 owner_there before path (Shared f key) g b e =
-    subst (BelongsTo before path) (same_inside f g e)
+    subst (BelongsTo before path) (same_Some f g e)
     (under before path f (shared_path before f key) (codes "data" ++ 47 ∷ nested key) b.valid.0
     b.built (shared_flat before f key))
 owner_there before path (Own f n key) g b e =
-    subst (BelongsTo before path) (same_inside f g e)
+    subst (BelongsTo before path) (same_Some f g e)
     (under before path f (own_path before f n key) (n ++ 47 ∷ (codes "data" ++ 47 ∷ nested key))
     b.valid.0 b.built (own_flat before f n key))
 owner_there before path (Meta f n kind) g b e =
-    subst (BelongsTo before path) (same_inside f g e)
+    subst (BelongsTo before path) (same_Some f g e)
     (under before path f (meta_path before f n kind)
     (n ++ 47 ∷ (codes "meta" ++ 47 ∷ meta_file kind)) b.valid.0 b.built
     (meta_flat before f n kind))
-owner_there before path (Entry f n kind) g b e = subst (BelongsTo before path) (same_inside f g e)
+owner_there before path (Entry f n kind) g b e = subst (BelongsTo before path) (same_Some f g e)
     (is_entry n kind b)
-owner_there before path (Latest f kind) g b e = subst (BelongsTo before path) (same_inside f g e)
+owner_there before path (Latest f kind) g b e = subst (BelongsTo before path) (same_Some f g e)
     (is_latest kind b)
-owner_there before path (Stray f n) g s e = subst (BelongsTo before path) (same_inside f g e)
+owner_there before path (Stray f n) g s e = subst (BelongsTo before path) (same_Some f g e)
     (lies_under s.rest s.node s.under)
 owner_there before path Other g o e = absurd (cc)
 

@@ -5,8 +5,8 @@ use Rattle.std.specs.Str.Pattern.{FindsTextPrefix, FindsTextSuffix, StripsPrefix
 use Rattle.std.proofs.lemmas.List.{reverse-append, reverse-reverse}
 use Rattle.std.proofs.lemmas.Str.Pattern.{NoCharPasses-char, drop_at_char}
 use Rattle.std.proofs.Math.ListN.{take-append-drop}
+use Rattle.std.proofs.lemmas.Bool.{ne_eqb}
 use Rattle.med_base.specs.Entries.{behind, ahead, between, cut_before, around_last}
-use Rattle.med_base.proofs.Slashes.{not_equal}
 
 -- two ways to read a text agree, where each finds exactly what was written into it
 pub same_option : {V : Type 0} (R : V → Type 0) (r p : Option V) → ((v : V) → p ≡ Some v → R v)
@@ -104,7 +104,7 @@ around_lacks : (byte : ℕ) (t : List ℕ) → Lacks byte t → around_last byte
 around_lacks byte [] h = refl
 around_lacks byte (b ∷ bs) h =
     ap (cut_before byte b bs) (around_lacks byte bs h.1)
-    ∙ ap (λ x. cond x (Some ([], bs)) None) (not_equal b byte h.0)
+    ∙ ap (λ x. cond x (Some ([], bs)) None) (ne_eqb b byte h.0)
 
 pub around_made : (byte : ℕ) (a b : List ℕ) → Lacks byte b
     → around_last byte (a ++ byte ∷ b) ≡ Some (a, b)

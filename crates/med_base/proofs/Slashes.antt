@@ -1,16 +1,10 @@
 -- A text between its slashes: its components, and where it is cut at the first slash.
 use Rattle.std.proofs.Common.{◌≡◌, ◌==◌, ◌&&◌, ◌∙◌, ℕ, Bool, true, false, true≢false, not, cond, List, [], ◌∷◌, ◌++◌, None, refl, sym, ap, eqb-true}
 use Rattle.std.specs.List.{onto_first}
+use Rattle.std.proofs.lemmas.Bool.{ne_eqb}
 use Rattle.med_base.specs.Prefix.{parts}
 use Rattle.med_base.specs.Classify.{pair_of}
 use Rattle.med_base.proofs.Paths.{HasNoSlash}
-
-pub not_equal : (b c : ℕ) → (b ≡ c → ⊥) → (b == c) ≡ false
-not_equal b c not = go (b == c) refl
-  where
-    go : (x : Bool) → (b == c) ≡ x → x ≡ false
-    go true e = absurd (not (eqb-true b c e))
-    go false e = refl
 
 abbrev pub lacks_slash : List ℕ → Bool
 lacks_slash [] = true
@@ -38,7 +32,7 @@ slash_within (b ∷ bs) rest h = slash_within bs rest h.1
 pub parts_whole : (t : List ℕ) → HasNoSlash t → parts t ≡ t ∷ []
 parts_whole [] h = refl
 parts_whole (b ∷ bs) h =
-    ap (λ x. cond x ([] ∷ parts bs) (onto_first b (parts bs))) (not_equal b 47 h.0)
+    ap (λ x. cond x ([] ∷ parts bs) (onto_first b (parts bs))) (ne_eqb b 47 h.0)
     ∙ ap (onto_first b) (parts_whole bs h.1)
 
 -- what stands before the first slash is the first component
@@ -46,7 +40,7 @@ pub parts_around : (x t : List ℕ) → HasNoSlash x → parts (x ++ 47 ∷ t) �
 parts_around [] t h = refl
 parts_around (b ∷ bs) t h =
     ap (λ y. cond y ([] ∷ parts (bs ++ 47 ∷ t)) (onto_first b (parts (bs ++ 47 ∷ t))))
-    (not_equal b 47 h.0)
+    (ne_eqb b 47 h.0)
     ∙ ap (onto_first b) (parts_around bs t h.1)
 
 -- a text has no slash, or stands around its first one

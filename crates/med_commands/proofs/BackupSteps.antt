@@ -1,7 +1,8 @@
 -- A backup that was made is done, and how the command `backup` ends.
-use Rattle.std.proofs.Common.{◌≡◌, ◌≤◌, ◌++◌, ◌<◌, take, inl, inr, ℕ, List, ◌∷◌, [], map, Option, Some, None, IfSome, Result, Ok, Err, OnOk, OnErr, refl, sym, ap, ◌∙◌, subst, arith}
+use Rattle.std.proofs.Common.{◌≡◌, inl, inr, ℕ, List, [], map, Option, Some, None, IfSome, Result, Ok, Err, OnOk, OnErr, refl, sym, ◌∙◌, subst, arith}
 use Rattle.std.specs.List.{AllByRecursion}
 use Rattle.std.specs.FinMap.{keys}
+use Rattle.std.proofs.lemmas.Option.{IfSome_then}
 use Rattle.med_base.specs.Content.{objects_under}
 use Rattle.med_base.specs.Key.{AreRising, IsKey}
 use Rattle.med_base.specs.Layout.{backup_folder}
@@ -82,11 +83,6 @@ told_backup before f n schema at end copies (Some s) (Some c) after is free risi
     (backup_of before f n schema at end c free s copies rising names manifest of keys_are
     schema_is)
 
-and_told : {A : Type 0} (held : Option A) (P Q : A → Type 0) → ((s : A) → P s → Q s) → IfSome held P
-    → IfSome held Q
-and_told None P Q f h = tt
-and_told (Some s) P Q f h = f s h
-
 pub done_of : (node_config : NodeConfig) (n : List ℕ) (a b : World) (files : List FileRecord)
     → IsBackedUpFrom node_config.before node_config.node n (snap_at a.nodes.snaps node_config n) (opened_at node_config a.store)
     b.store a.stood b.stood files
@@ -106,9 +102,8 @@ done_of node_config n a b files m counts =
     (records_of node_config.before node_config.node n copies) =
     subst (λ (fs : List FileRecord). IsManifest node_config.before node_config.node n (manifest_text fs) fs)
     m.copied.files_are m.copied.manifest_is in
-    let keys_are : IfSome held (λ s. map key_of copies ≡ keys s.files) = and_told held
-    (λ s. m.order ≡ keys s.files) (λ s. map key_of copies ≡ keys s.files)
-    (λ s e. m.copied.keys_are ∙ e) m.found.can.keys_are in
+    let keys_are : IfSome held (λ s. map key_of copies ≡ keys s.files) = IfSome_then held
+    m.found.can.keys_are (λ s e. m.copied.keys_are ∙ e) in
     record {
       finished = subst (λ (fs : List FileRecord). IfTold old.content new.content
           (λ c d. FinishesBackup node_config.before node_config.node n c d fs)) (sym m.copied.files_are)

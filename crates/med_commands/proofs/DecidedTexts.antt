@@ -1,5 +1,6 @@
 -- A config file that is told is refused with one text, and so are words.
 use Rattle.std.proofs.Common.{◌≡◌, ℕ, List, Option, Some, None, IfSome, refl, sym, ◌∙◌, ap, ap₂, subst, string_bytes}
+use Rattle.std.proofs.lemmas.Option.{same_Some}
 use Rattle.med_ini.specs.Entries.{Entry}
 use Rattle.med_ini.specs.Grammar.{FaultOn}
 use Rattle.med_ini.specs.Options.{Fault, missing, bad_number, bad_name, unsupported, config_fault, bucket_over, prefix_over, fqdn_over}
@@ -24,9 +25,6 @@ use Rattle.med_commands.specs.declared.load.ConfigFault.TheVariants.{NoFile, Lin
 
 -- ---- words
 
-inside : (x y : List ℕ) → Some x ≡ Some y → x ≡ y
-inside x y e = cc
-
 pub one_usage : (words : List (List ℕ)) (u v : Usage) → BlamesWords words (words_error.Usage u)
     → BlamesWords words (words_error.Usage v) → usage_text u ≡ usage_text v
 one_usage words usage.Line usage.Line f g = refl
@@ -34,7 +32,7 @@ one_usage words usage.Line (usage.Value option) f g = absurd (f g.main g.own g.w
 one_usage words (usage.Value option) usage.Line f g = absurd (g f.main f.own f.word f.line)
 one_usage words (usage.Value option) (usage.Value other) f g =
     let line = one_line words f.main g.main f.word g.word f.own g.own f.line g.line in
-    ap bad_value_text (inside option.now other.now
+    ap bad_value_text (same_Some option.now other.now
     (sym f.first ∙ ap (λ (own : List Use). first_bad (said_by own)) line.2 ∙ g.first))
 
 -- ---- the checks of a config file
@@ -55,9 +53,6 @@ check_text (missing option) = missing_text option
 check_text (bad_number option) = bad_number_text option
 check_text (bad_name option) = bad_name_text option
 check_text (unsupported name) = provider_text name
-
-same_fault : (f g : Fault) → Some f ≡ Some g → f ≡ g
-same_fault f g e = cc
 
 -- ---- a config file that is told
 
@@ -92,7 +87,7 @@ module _ (files : FileContents) (asked : Asked) (file : Option (List ℕ))
   not_absent bytes none some = cc (sym none ∙ some)
 
   same_bytes : (x y : List ℕ) → file ≡ Some x → file ≡ Some y → x ≡ y
-  same_bytes x y f g = inside x y (sym f ∙ g)
+  same_bytes x y f g = same_Some x y (sym f ∙ g)
 
   not_line : (x y : List ℕ) (line : ℕ) (kind : IniKind) (over : Overrides) (fault : Fault)
       → file ≡ Some x → file ≡ Some y → FaultOn x line kind → IsRefusedFor fault over y → ⊥
@@ -113,7 +108,7 @@ module _ (files : FileContents) (asked : Asked) (file : Option (List ℕ))
   same_check x y over other p q f g o u bad also =
       let here : IsRefusedFor p over y = subst (IsRefusedFor p over) (same_bytes x y f g) bad in
       let entries = one_reading_of y here.entries also.entries here.ini also.ini in
-      same_fault p q
+      same_Some p q
       (sym here.first ∙ one_check asked here.entries also.entries over other entries o u
       ∙ also.first)
 

@@ -1,5 +1,6 @@
 -- A config file that is told gives one site at most, and none where it is refused.
 use Rattle.std.proofs.Common.{◌≡◌, ℕ, List, Option, Some, None, IfSome, refl, sym, ◌∙◌, ap, subst, string_bytes, codes}
+use Rattle.std.proofs.lemmas.Option.{same_Some}
 use Rattle.med_ini.specs.Entries.{Entry}
 use Rattle.med_ini.specs.Grammar.{FaultOn}
 use Rattle.med_ini.specs.Options.{Fault, Texts, texts_of, checks, first_of, config_fault, IsRead, text_at, stored, foldered, bucket_over, prefix_over, fqdn_over}
@@ -45,9 +46,6 @@ texts_same asked a b over other same f g =
 
 -- ---- the site of a configuration is read of the texts
 
-inside : (x y : List ℕ) → Some x ≡ Some y → x ≡ y
-inside x y e = cc
-
 same_node_config : (a b c d n m k l r s : List ℕ) → a ≡ b → c ≡ d → n ≡ m → k ≡ l → r ≡ s
     → ◌≡◌ {A = NodeConfig} (record { base = a; bucket = c; before = n; node = k; nodes_root = r })
     (record { base = b; bucket = d; before = m; node = l; nodes_root = s })
@@ -59,10 +57,10 @@ node_config_read t c d f g =
     same_node_config (string_bytes c.base) (string_bytes d.base) (string_bytes c.bucket)
     (string_bytes d.bucket) c.layout d.layout c.node d.node (string_bytes c.nodes_root)
     (string_bytes d.nodes_root)
-    (inside (string_bytes c.base) (string_bytes d.base) (f.base ∙ sym g.base))
-    (inside (string_bytes c.bucket) (string_bytes d.bucket) (f.bucket ∙ sym g.bucket))
+    (same_Some (string_bytes c.base) (string_bytes d.base) (f.base ∙ sym g.base))
+    (same_Some (string_bytes c.bucket) (string_bytes d.bucket) (f.bucket ∙ sym g.bucket))
     (f.layout ∙ sym g.layout)
-    (inside c.node d.node (f.node ∙ sym g.node))
+    (same_Some c.node d.node (f.node ∙ sym g.node))
     (f.nodes_root ∙ sym g.nodes_root)
 
 -- ---- a config file that is told
@@ -82,7 +80,7 @@ module _ (files : FileContents) (asked : Asked) (file : Option (List ℕ))
   one_node_config c d f g =
       let x = gives_it c f in
       let y = gives_it d g in
-      let bytes : x.0 ≡ y.0 = inside x.0 y.0 (sym x.1 ∙ y.1) in
+      let bytes : x.0 ≡ y.0 = same_Some x.0 y.0 (sym x.1 ∙ y.1) in
       let given : Gives g.over x.0 d = subst (λ (b : List ℕ). Gives g.over b d) (sym bytes) y.2 in
       let entries = one_reading_of x.0 x.2.entries given.entries x.2.ini given.ini in
       let texts = texts_same asked x.2.entries given.entries f.over g.over entries f.overrides
@@ -96,7 +94,7 @@ module _ (files : FileContents) (asked : Asked) (file : Option (List ℕ))
       → HasBytes (λ bytes. IsRefusedFor fault over bytes) file → ⊥
   not_for fault config c over overrides (bytes, is, refused) =
       let x = gives_it config c in
-      let same : x.0 ≡ bytes = inside x.0 bytes (sym x.1 ∙ is) in
+      let same : x.0 ≡ bytes = same_Some x.0 bytes (sym x.1 ∙ is) in
       let again : IsRefusedFor fault over x.0 = subst (IsRefusedFor fault over) (sym same)
       refused in
       let entries = one_reading_of x.0 x.2.entries again.entries x.2.ini again.ini in
@@ -119,7 +117,7 @@ module _ (files : FileContents) (asked : Asked) (file : Option (List ℕ))
           let bad : Some x.0 ≡ None = sym x.1 ∙ b.1 in cc bad
       go (Line line kind) b =
           let x = gives_it config c in
-          let same : b.0 ≡ x.0 = inside b.0 x.0 (sym b.1 ∙ x.1) in
+          let same : b.0 ≡ x.0 = same_Some b.0 x.0 (sym b.1 ∙ x.1) in
           fault_none x.0 line kind
           (subst (λ (bytes : List ℕ). FaultOn bytes line kind) same b.2) x.2.entries x.2.ini
       go (Missing option) b = not_for _ config c r.over r.overrides b

@@ -1,15 +1,9 @@
 -- What stands before the last slash of a path.
-use Rattle.std.proofs.Common.{◌≡◌, ◌<◌, ◌+◌, ◌∙◌, inr, refl, ℕ, zero, suc, List, [], ◌∷◌, sym, arith, length, take, drop, get_or}
+use Rattle.std.proofs.Common.{◌≡◌, ◌<◌, ◌+◌, ◌∙◌, inr, ℕ, suc, List, sym, arith, length, take, drop, get_or}
 use Rattle.std.specs.Prelude.{◌≢◌}
-use Rattle.std.proofs.lemmas.List.{get_or-drop, length-drop}
+use Rattle.std.proofs.lemmas.List.{get_or-drop, length-drop, get_or_default}
 use Rattle.med_base.proofs.Lists.{around}
 use Rattle.med_folder.specs.Place.{HasNoSlash, IsParent}
-
--- an item that is there doesn't depend on what would stand in its place
-item_at : (xs : List ℕ) (i d e : ℕ) → i < length xs → get_or xs i d ≡ get_or xs i e
-item_at [] i d e lt = absurd (omega arith)
-item_at (x ∷ xs) zero d e lt = refl
-item_at (x ∷ xs) (suc i) d e lt = item_at xs i d e (omega arith)
 
 no_slash_behind : (path : List ℕ) (at : ℕ) → at < length path
     → ((i : ℕ) → at < i → i < length path → get_or path i 0 ≢ 47) → HasNoSlash (drop (suc at) path)
@@ -23,5 +17,5 @@ pub parent_before : (path : List ℕ) (at : ℕ) → at < length path → get_or
 parent_before path at inside slash last = inr (
   drop (suc at) path,
   no_slash_behind path at inside last,
-  around path at 47 inside (sym slash ∙ item_at path at 0 47 inside),
+  around path at 47 inside (sym slash ∙ get_or_default path at 0 47 inside),
 )

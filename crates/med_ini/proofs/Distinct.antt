@@ -2,7 +2,7 @@
 use Rattle.std.proofs.Common.{◌≡◌, ◌∙◌, ◌||◌, ◌++◌, ◌∷◌, [], Bool, false, List, refl, sym, ap₂}
 use Rattle.std.proofs.lemmas.List.Folds.{list_any-append}
 use Rattle.std.specs.List.{list_any, AllByRecursion}
-use Rattle.med_base.proofs.Bools.{or_false}
+use Rattle.std.proofs.lemmas.Bool.{or_parts}
 use Rattle.med_ini.specs.Document.{entries_in}
 use Rattle.med_ini.specs.Entries.{Entry, stands_twice}
 use Rattle.med_ini.specs.Labels.{Label, quiet, more, header, option, Named, Place, Reads, after, is_named, section_name}
@@ -14,7 +14,7 @@ AreNew options = AllByRecursion
     (λ (e : Entry). list_any (is_named e.section e.key) options ≡ false)
 
 neither : (a b c : Bool) → (a || (b || c)) ≡ false → (a ≡ false) × (b ≡ false)
-neither a b c e = let parts = or_false a (b || c) e in (parts.0, (or_false b c parts.1).0)
+neither a b c e = let parts = or_parts a (b || c) e in (parts.0, (or_parts b c parts.1).0)
 
 -- entries that are new behind one option more are new before it, and are not that option
 earlier : (options : List Named) (n : Named) (entries : List Entry)

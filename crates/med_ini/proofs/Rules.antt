@@ -1,6 +1,6 @@
 -- A line has at most one label, and none where it has a fault, of which it has at most one.
 use Rattle.std.proofs.Common.{◌≡◌, ◌∙◌, Bool, true, false, true≢false, Option, Some, None, refl, sym, ap, ap₂}
-use Rattle.med_base.proofs.Bools.{some_once}
+use Rattle.med_base.proofs.Options.{some_once}
 use Rattle.med_ini.specs.Lines.{Line, stripped, is_empty, header_of, key_value}
 use Rattle.med_ini.specs.Labels.{Place, Label, quiet, more, header, option, Begins, Fits, IsFault, is_quiet, goes_on, is_repeated, is_taken, section_name}
 use Rattle.med_ini.specs.declared.errors.IniKind.{IniKind}

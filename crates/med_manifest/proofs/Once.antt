@@ -1,12 +1,13 @@
 -- One text is the manifest of one list of files at most.
-use Rattle.std.proofs.Common.{◌≡◌, ◌∙◌, ℕ, List, [], ◌∷◌, ◌++◌, flat_map, codes, inl, inr, refl, sym, ap, subst, append_assoc}
+use Rattle.std.proofs.Common.{◌≡◌, ◌∙◌, ℕ, List, [], ◌∷◌, ◌++◌, flat_map, codes, inl, inr, sym, ap, subst, append_assoc}
 use Rattle.std.specs.List.{AllZip}
 use Rattle.serde_json.specs.Data.{Data, Items}
 use Rattle.serde_json.specs.Find.{as_array}
 use Rattle.med_base.specs.declared.key.FileKey.{FileKey}
-use Rattle.med_base.proofs.Bools.{some_once}
 use Rattle.med_base.proofs.Lists.{zip_once}
 use Rattle.med_base.proofs.Paths.{HasNoSlash, component_no_slash}
+use Rattle.med_base.proofs.Options.{some_once}
+use Rattle.med_base.proofs.Slashes.{slash_within}
 use Rattle.med_json.specs.Tree.{items_in, text_at, number_at, list_at}
 use Rattle.med_json.proofs.TreeLemmas.{tree_once}
 use Rattle.med_manifest.specs.declared.manifest.FileRecord.{FileRecord}
@@ -61,17 +62,13 @@ named_once bytes a b p q =
 
 -- ---- the key of a path
 
-no_slash_within : (x b : List ℕ) → HasNoSlash (x ++ 47 ∷ b) → ⊥
-no_slash_within [] b h = h.0 refl
-no_slash_within (c ∷ x) b h = no_slash_within x b h.1
-
 -- two texts without a slash behind the last slash of one text
 same_end : (x y a b : List ℕ) → HasNoSlash a → HasNoSlash b → x ++ 47 ∷ a ≡ y ++ 47 ∷ b → a ≡ b
 same_end [] [] a b ha hb e = cc
 same_end [] (c ∷ y) a b ha hb e =
-    let is : a ≡ y ++ 47 ∷ b = cc in absurd (no_slash_within y b (subst HasNoSlash is ha))
+    let is : a ≡ y ++ 47 ∷ b = cc in absurd (slash_within y b (subst HasNoSlash is ha))
 same_end (c ∷ x) [] a b ha hb e =
-    let is : b ≡ x ++ 47 ∷ a = cc in absurd (no_slash_within x a (subst HasNoSlash is hb))
+    let is : b ≡ x ++ 47 ∷ a = cc in absurd (slash_within x a (subst HasNoSlash is hb))
 same_end (c ∷ x) (d ∷ y) a b ha hb e = same_end x y a b ha hb (cc)
 
 -- a path of the backup ends with a slash and the name of the file

@@ -1,8 +1,9 @@
 -- Bytes are refused for one cause at most.
-use Rattle.std.proofs.Common.{◌≡◌, ◌∙◌, ◌⊎◌, inl, inr, ℕ, suc, List, [], ◌∷◌, ◌++◌, length, Some, None, refl, sym, ap, subst}
-use Rattle.std.specs.List.{AllZip, AllByRecursion}
+use Rattle.std.proofs.Common.{◌≡◌, ◌∙◌, inl, inr, ℕ, List, length, Some, None, refl, sym, ap, subst, ◌++◌, ◌∷◌}
+use Rattle.std.specs.List.{AllZip}
 use Rattle.serde_json.specs.Data.{Data, Items}
-use Rattle.med_json.specs.Tree.{IsText, items_in}
+use Rattle.med_base.proofs.Cuts.{Cuts, two_cuts, first_failing_once}
+use Rattle.med_json.specs.Tree.{IsText, items_in, IsNoText}
 use Rattle.med_json.proofs.TreeLemmas.{tree_once, no_text}
 use Rattle.med_manifest.specs.declared.manifest.FileRecord.{FileRecord}
 use Rattle.med_manifest.specs.declared.why.ManifestError.TheVariants.{Why}
@@ -10,7 +11,7 @@ use Rattle.med_manifest.specs.declared.why.ManifestWhy.{ManifestWhy}
 use Rattle.med_manifest.specs.declared.why.ManifestWhy.TheVariants.{NotJson, NotManifest, BadDigest, ForeignPath, DuplicatePath}
 use Rattle.med_manifest.specs.Manifest.{IsRecordOf}
 use Rattle.med_manifest.specs.Named.{Named, IsShaped, IsFirstUnshaped, HasFiles, NamesFiles}
-use Rattle.med_manifest.specs.Refusals.{IsUnshapedAt, no_list, no_table, HasFault, IsFirstFault, NamesFault, CausesAreOne, RefusedAreNone}
+use Rattle.med_manifest.specs.Refusals.{IsUnshapedAt, no_list, no_table, HasFault, IsFirstFault, NamesFault, CausesAreOne, RefusedAreNone, IsRefused}
 use Rattle.med_manifest.proofs.Once.{named_once, records_once}
 use Rattle.med_manifest.proofs.Refused.{no_records, not_shaped, refused}
 
@@ -20,24 +21,11 @@ refused_none before f n bytes why is files is_manifest =
 
 -- ---- items that are no tables
 
--- the first item that is no table is one
-places_same : (b : List Data) (x : Data) (r : List Data) (c : List Data) (y : Data) (s : List Data)
-    → b ++ x ∷ r ≡ c ++ y ∷ s → AllByRecursion IsShaped b → AllByRecursion IsShaped c
-    → (IsShaped x → ⊥) → (IsShaped y → ⊥) → length b ≡ length c
-places_same [] x r [] y s e p q no_x no_y = refl
-places_same [] x r (n ∷ c) y s e p q no_x no_y =
-    let is : n ≡ x = cc e in absurd (no_x (subst IsShaped is q.0))
-places_same (m ∷ b) x r [] y s e p q no_x no_y =
-    let is : m ≡ y = cc e in absurd (no_y (subst IsShaped is p.0))
-places_same (m ∷ b) x r (n ∷ c) y s e p q no_x no_y =
-    let rest : b ++ x ∷ r ≡ c ++ y ∷ s = cc e in
-    ap suc (places_same b x r c y s rest p.1 q.1 no_x no_y)
-
 unshaped_same : (ds : List Data) (a b : ℕ) → IsFirstUnshaped ds a → IsFirstUnshaped ds b → a ≡ b
 unshaped_same ds a b p q =
     p.at_is
-    ∙ places_same p.good p.bad p.rest q.good q.bad q.rest (sym p.items_are ∙ q.items_are)
-    p.tables_before q.tables_before p.no_table q.no_table
+    ∙ ap length (first_failing_once IsShaped p.good p.bad p.rest q.good q.bad q.rest
+    (sym p.items_are ∙ q.items_are) p.tables_before q.tables_before p.no_table q.no_table).0
     ∙ sym q.at_is
 
 trees_same : (tree : Data) (a b : ℕ) → IsUnshapedAt tree a → IsUnshapedAt tree b → a ≡ b
@@ -52,30 +40,6 @@ trees_same tree a b (no_table list is first) (no_table other also second) =
     (subst (λ (items : Items). IsFirstUnshaped (items_in items) b) same second)
 
 -- ---- files at fault
-
--- one list, cut at two places
-abbrev Cuts : List Named → Named → List Named → Named → Type 0
-Cuts b x c y =
-    ((b ≡ c) × (x ≡ y))
-    ⊎ (((m : List Named) × (c ≡ b ++ x ∷ m)) ⊎ ((m : List Named) × (b ≡ c ++ y ∷ m)))
-
-cuts_more : (g h : Named) (b : List Named) (x : Named) (c : List Named) (y : Named) → g ≡ h
-    → Cuts b x c y → Cuts (g ∷ b) x (h ∷ c) y
-cuts_more g h b x c y e (inl is) = inl ((λ i. e i ∷ is.0 i), is.1)
-cuts_more g h b x c y e (inr (inl (m, is))) = inr (inl (m, λ i. sym e i ∷ is i))
-cuts_more g h b x c y e (inr (inr (m, is))) = inr (inr (m, λ i. e i ∷ is i))
-
-two_cuts : (b : List Named) (x : Named) (r : List Named) (c : List Named) (y : Named)
-    (s : List Named) → b ++ x ∷ r ≡ c ++ y ∷ s → Cuts b x c y
-two_cuts [] x r [] y s e = inl (refl, cc e)
-two_cuts [] x r (h ∷ c) y s e =
-    let is : h ≡ x = cc e in inr (inl (c, λ i. is i ∷ c))
-two_cuts (g ∷ b) x r [] y s e =
-    let is : g ≡ y = cc e in inr (inr (b, λ i. is i ∷ b))
-two_cuts (g ∷ b) x r (h ∷ c) y s e =
-    let first : g ≡ h = cc e in
-    let rest : b ++ x ∷ r ≡ c ++ y ∷ s = cc e in
-    cuts_more g h b x c y first (two_cuts b x r c y s rest)
 
 module _ (before f n : List ℕ) where
   -- one file behind the same files has one fault
@@ -108,6 +72,22 @@ module _ (before f n : List ℕ) where
   fault_same earlier bad (DuplicatePath path) (DuplicatePath other) p q =
       ap (λ (text : List ℕ). DuplicatePath text) (p.0 ∙ sym q.0)
 
+  -- no file at fault stands before another that is the first
+  no_earlier : (files : List Named) (v w : ManifestWhy) (p : IsFirstFault before f n files v)
+      (q : IsFirstFault before f n files w) (m : List Named) → q.good ≡ p.good ++ p.bad ∷ m → ⊥
+  no_earlier files v w p q m is =
+      no_records before f n v q.good q.earlier
+      (record {
+        good = p.good;
+        bad = p.bad;
+        rest = m;
+        files_are = is;
+        earlier = p.earlier;
+        records = p.records;
+        fault = p.fault;
+      })
+      q.records
+
   first_same : (files : List Named) (v w : ManifestWhy) (p : IsFirstFault before f n files v)
       (q : IsFirstFault before f n files w) → Cuts p.good p.bad q.good q.bad → v ≡ w
   first_same files v w p q (inl (goods, bads)) =
@@ -119,30 +99,8 @@ module _ (before f n : List ℕ) where
       fault_same p.earlier p.bad v w p.fault
       (subst (λ (file : Named). HasFault before f n p.earlier file w) (sym bads)
       (subst (λ (rs : List FileRecord). HasFault before f n rs q.bad w) same q.fault))
-  first_same files v w p q (inr (inl (m, is))) =
-      absurd (no_records before f n v q.good q.earlier
-      (record {
-        good = p.good;
-        bad = p.bad;
-        rest = m;
-        files_are = is;
-        earlier = p.earlier;
-        records = p.records;
-        fault = p.fault;
-      })
-      q.records)
-  first_same files v w p q (inr (inr (m, is))) =
-      absurd (no_records before f n w p.good p.earlier
-      (record {
-        good = q.good;
-        bad = q.bad;
-        rest = m;
-        files_are = is;
-        earlier = q.earlier;
-        records = q.records;
-        fault = q.fault;
-      })
-      p.records)
+  first_same files v w p q (inr (inl (m, is))) = absurd (no_earlier files v w p q m is)
+  first_same files v w p q (inr (inr (m, is))) = absurd (no_earlier files w v q p m is)
 
   files_same : (bytes : List ℕ) (v w : ManifestWhy) → NamesFault before f n bytes v
       → NamesFault before f n bytes w → v ≡ w
@@ -164,53 +122,46 @@ no_tables bytes at tree files text unshaped names =
     (subst (λ (d : Data). HasFiles d files)
     (tree_once bytes names.tree tree names.text text) names.has)
 
+-- what is told of the bytes that have a cause
+data Told (before f n bytes : List ℕ) (why : ManifestWhy) : Type 0 where
+  no_text_told : IsNoText bytes → why ≡ NotJson → Told before f n bytes why
+  unshaped_told : (at : ℕ) (tree : Data) → IsText bytes tree → IsUnshapedAt tree at
+      → why ≡ NotManifest at → Told before f n bytes why
+  names_told : NamesFault before f n bytes why → Told before f n bytes why
+
+told_of : (before f n bytes : List ℕ) (why : ManifestWhy) → IsRefused before f n bytes why
+    → Told before f n bytes why
+told_of before f n bytes NotJson p = no_text_told p refl
+told_of before f n bytes (NotManifest at) p = unshaped_told at p.0 p.1 p.2 refl
+told_of before f n bytes (BadDigest at) p = names_told p
+told_of before f n bytes (ForeignPath path) p = names_told p
+told_of before f n bytes (DuplicatePath path) p = names_told p
+
+told_once : (before f n bytes : List ℕ) (v w : ManifestWhy) → Told before f n bytes v
+    → Told before f n bytes w → v ≡ w
+told_once before f n bytes v w (no_text_told p is) (no_text_told q as_well) = is ∙ sym as_well
+told_once before f n bytes v w (no_text_told p is) (unshaped_told b tree text q as_well) =
+    absurd (no_text bytes tree p text)
+told_once before f n bytes v w (no_text_told p is) (names_told q) =
+    absurd (no_text bytes q.names.tree p q.names.text)
+told_once before f n bytes v w (unshaped_told a tree text p is) (no_text_told q as_well) =
+    absurd (no_text bytes tree q text)
+told_once before f n bytes v w (unshaped_told a tree text p is)
+    (unshaped_told b other read q as_well) =
+    let same = tree_once bytes other tree read text in
+    is
+    ∙ ap (λ (at : ℕ). NotManifest at)
+    (trees_same tree a b p (subst (λ (d : Data). IsUnshapedAt d b) same q))
+    ∙ sym as_well
+told_once before f n bytes v w (unshaped_told a tree text p is) (names_told q) =
+    absurd (no_tables bytes a tree q.files text p q.names)
+told_once before f n bytes v w (names_told p) (no_text_told q as_well) =
+    absurd (no_text bytes p.names.tree q p.names.text)
+told_once before f n bytes v w (names_told p) (unshaped_told b tree text q as_well) =
+    absurd (no_tables bytes b tree p.files text q p.names)
+told_once before f n bytes v w (names_told p) (names_told q) =
+    files_same before f n bytes v w p q
+
 pub cause_once : CausesAreOne
-cause_once before f n bytes NotJson NotJson p q = refl
-cause_once before f n bytes NotJson (NotManifest b) p q = absurd (no_text bytes q.0 p q.1)
-cause_once before f n bytes NotJson (BadDigest b) p q =
-    absurd (no_text bytes q.names.tree p q.names.text)
-cause_once before f n bytes NotJson (ForeignPath b) p q =
-    absurd (no_text bytes q.names.tree p q.names.text)
-cause_once before f n bytes NotJson (DuplicatePath b) p q =
-    absurd (no_text bytes q.names.tree p q.names.text)
-cause_once before f n bytes (NotManifest a) NotJson p q = absurd (no_text bytes p.0 q p.1)
-cause_once before f n bytes (NotManifest a) (NotManifest b) p q =
-    let same = tree_once bytes q.0 p.0 q.1 p.1 in
-    ap (λ (at : ℕ). NotManifest at)
-    (trees_same p.0 a b p.2 (subst (λ (d : Data). IsUnshapedAt d b) same q.2))
-cause_once before f n bytes (NotManifest a) (BadDigest b) p q =
-    absurd (no_tables bytes a p.0 q.files p.1 p.2 q.names)
-cause_once before f n bytes (NotManifest a) (ForeignPath b) p q =
-    absurd (no_tables bytes a p.0 q.files p.1 p.2 q.names)
-cause_once before f n bytes (NotManifest a) (DuplicatePath b) p q =
-    absurd (no_tables bytes a p.0 q.files p.1 p.2 q.names)
-cause_once before f n bytes (BadDigest a) NotJson p q =
-    absurd (no_text bytes p.names.tree q p.names.text)
-cause_once before f n bytes (BadDigest a) (NotManifest b) p q =
-    absurd (no_tables bytes b q.0 p.files q.1 q.2 p.names)
-cause_once before f n bytes (BadDigest a) (BadDigest b) p q =
-    files_same before f n bytes (BadDigest a) (BadDigest b) p q
-cause_once before f n bytes (BadDigest a) (ForeignPath b) p q =
-    files_same before f n bytes (BadDigest a) (ForeignPath b) p q
-cause_once before f n bytes (BadDigest a) (DuplicatePath b) p q =
-    files_same before f n bytes (BadDigest a) (DuplicatePath b) p q
-cause_once before f n bytes (ForeignPath a) NotJson p q =
-    absurd (no_text bytes p.names.tree q p.names.text)
-cause_once before f n bytes (ForeignPath a) (NotManifest b) p q =
-    absurd (no_tables bytes b q.0 p.files q.1 q.2 p.names)
-cause_once before f n bytes (ForeignPath a) (BadDigest b) p q =
-    files_same before f n bytes (ForeignPath a) (BadDigest b) p q
-cause_once before f n bytes (ForeignPath a) (ForeignPath b) p q =
-    files_same before f n bytes (ForeignPath a) (ForeignPath b) p q
-cause_once before f n bytes (ForeignPath a) (DuplicatePath b) p q =
-    files_same before f n bytes (ForeignPath a) (DuplicatePath b) p q
-cause_once before f n bytes (DuplicatePath a) NotJson p q =
-    absurd (no_text bytes p.names.tree q p.names.text)
-cause_once before f n bytes (DuplicatePath a) (NotManifest b) p q =
-    absurd (no_tables bytes b q.0 p.files q.1 q.2 p.names)
-cause_once before f n bytes (DuplicatePath a) (BadDigest b) p q =
-    files_same before f n bytes (DuplicatePath a) (BadDigest b) p q
-cause_once before f n bytes (DuplicatePath a) (ForeignPath b) p q =
-    files_same before f n bytes (DuplicatePath a) (ForeignPath b) p q
-cause_once before f n bytes (DuplicatePath a) (DuplicatePath b) p q =
-    files_same before f n bytes (DuplicatePath a) (DuplicatePath b) p q
+cause_once before f n bytes v w p q =
+    told_once before f n bytes v w (told_of before f n bytes v p) (told_of before f n bytes w q)

@@ -1,13 +1,14 @@
 -- The key of a named file is told by the kind of its path.
 use Rattle.std.proofs.Common.{◌≡◌, ◌∙◌, ℕ, Bool, true, false, List, Some, None, inl, inr, refl, sym, ap, subst}
 use Rattle.std.specs.Prelude.{if◌then◌else◌}
+use Rattle.std.proofs.lemmas.Bool.{and_parts}
 use Rattle.med_base.specs.declared.key.FileKey.{FileKey}
 use Rattle.med_base.specs.Classify.{kind_of}
 use Rattle.med_base.specs.Key.{IsKey}
 use Rattle.med_base.specs.KindRelation.{IsOfKind}
 use Rattle.med_base.specs.Kinds.{Kind, Shared, Own, Meta, Entry, Latest, Stray, Other, IsFqdn, IsBackupName, IsBuilt}
 use Rattle.med_base.specs.Layout.{shared_path, own_path}
-use Rattle.med_base.proofs.Bools.{both, same_bytes, bytes_same}
+use Rattle.med_base.proofs.Bools.{same_bytes, bytes_same}
 use Rattle.med_base.proofs.KindsMade.{built_is_told}
 use Rattle.med_manifest.specs.Manifest.{IsPathOf, IsKeyOf}
 use Rattle.med_manifest.specs.Named.{Named}
@@ -22,7 +23,7 @@ some_from false x y e = absurd (cc)
 key_is : (file : Named) (key : FileKey) → is_of_table file key ≡ true
     → key ≡ key_told file key.file
 key_is file key e =
-    let parts = both _ _ e in
+    let parts = and_parts _ _ e in
     let keyspace = same_bytes key.keyspace file.keyspace parts.0 in
     let table = same_bytes key.table file.table parts.1 in
     λ i. record { keyspace = keyspace i; table = table i; file = key.file }
@@ -45,15 +46,15 @@ pub told_is : (before f n : List ℕ) (file : Named) (kind : Kind) (text : List 
     → IsKeyOf before f n file (key_told file text)
 told_is before f n file (Shared owner key) text is e =
     let found = some_from _ key.file text e in
-    let tests = both _ _ found.0 in
+    let tests = and_parts _ _ found.0 in
     let owner_is = same_bytes owner f tests.0 in
     let path : file.path ≡ shared_path before owner key = cc (sym is.built) in
     key_at before f n file key text tests.1 found.1 is.valid.1
     (inl (path ∙ ap (λ (o : List ℕ). shared_path before o key) owner_is))
 told_is before f n file (Own owner backup key) text is e =
     let found = some_from _ key.file text e in
-    let tests = both _ _ found.0 in
-    let more = both _ _ tests.1 in
+    let tests = and_parts _ _ found.0 in
+    let more = and_parts _ _ tests.1 in
     let owner_is = same_bytes owner f tests.0 in
     let backup_is = same_bytes backup n more.0 in
     let path : file.path ≡ own_path before owner backup key = cc (sym is.built) in

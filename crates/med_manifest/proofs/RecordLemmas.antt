@@ -1,15 +1,12 @@
 -- A loop that reads named files into records, and stops at the first fault.
-use Rattle.std.proofs.Common.{◌≡◌, ◌∙◌, ◌<◌, ◌+◌, ◌||◌, ℕ, zero, suc, Bool, true, false, cond, refl, sym, ap, subst, List, [], ◌∷◌, ◌++◌, map, length, take, drop, get_or, arith}
+use Rattle.std.proofs.Common.{◌≡◌, ◌∙◌, ◌<◌, ◌+◌, ◌||◌, ℕ, suc, Bool, true, false, cond, refl, sym, ap, subst, List, [], ◌∷◌, ◌++◌, map, length, take, drop, get_or, arith}
 use Rattle.std.specs.BTreeSet.{BTreeSet, contains, Updates}
-use Rattle.std.specs.Cmp.{eq_by_cmp_equiv}
+use Rattle.std.specs.Cmp.{eq_by_cmp_equiv, Equal-is}
 use Rattle.std.specs.List.{IsDistinct, list_any}
 use Rattle.std.proofs.lemmas.List.{map-append}
 use Rattle.std.proofs.lemmas.List.Folds.{list_any-append}
 use Rattle.std.proofs.lemmas.Map.Keys.{IsDistinct-push}
 use Rattle.std.proofs.lemmas.Map.Views.{Contains-from_any}
-use Rattle.std.specs.Ordering.{is_eq}
-use Rattle.std.specs.declared.cmp.Ordering.{Ordering}
-use Rattle.std.specs.declared.cmp.Ordering.TheVariants.{Less, Equal, Greater}
 use Rattle.med_base.specs.declared.key.FileKey.{FileKey}
 use Rattle.med_base.specs.Key.{key_cmp, key_eq}
 use Rattle.med_base.specs.KeyOrder.{key_total, key_exact}
@@ -21,8 +18,9 @@ use Rattle.med_manifest.specs.declared.why.ManifestError.TheVariants.{Why, Memor
 use Rattle.med_manifest.specs.declared.why.ManifestWhy.TheVariants.{NotJson, NotManifest, BadDigest, ForeignPath, DuplicatePath}
 use Rattle.med_manifest.specs.Manifest.{IsRecordOf, AreRecords}
 use Rattle.med_manifest.specs.Named.{named}
-use Rattle.med_manifest.specs.Refusals.{BlamesFile, BlamesFiles, IsFirstFault}
+use Rattle.med_manifest.specs.Refusals.{BlamesFile, BlamesFiles, IsFirstFault, HasFault}
 use Rattle.med_manifest.specs.Seen.{BlamesSeen}
+use Rattle.med_manifest.specs.declared.why.ManifestWhy.{ManifestWhy}
 
 pub none_distinct : IsDistinct key_eq []
 unfolding IsDistinct
@@ -38,24 +36,12 @@ nothing = record {
   md5 = record { ref_ptr = (0, 0); now = [] };
 }
 
--- an item is the same whatever the default is
-pub item_is : {X : Type 0} (xs : List X) (i : ℕ) (d : X) → i < length xs
-    → get_or xs i d ≡ get_or xs i (get_or xs i d)
-item_is [] i d lt = absurd (omega arith)
-item_is (x ∷ xs) zero d lt = refl
-item_is {X} (x ∷ xs) (suc i) d lt = item_is xs i d (omega arith)
-
 abbrev pub keys_of : List FileRecord → List FileKey
 keys_of records = map (λ (r : FileRecord). r.key) records
 
-is_equal : (o : Ordering) → is_eq o ≡ true → o ≡ Equal
-is_equal Less e = absurd (cc)
-is_equal Equal e = refl
-is_equal Greater e = absurd (cc)
-
 -- keys that no part tells apart are one key
 pub same_key : (a b : FileKey) → key_eq a b ≡ true → a ≡ b
-same_key a b e = key_exact a b (is_equal (key_cmp a b) e)
+same_key a b e = key_exact a b ((Equal-is (key_cmp a b)).0 e)
 
 module _ (before f n : List ℕ) (files : List NamedFile) (i : ℕ) (raw : NamedFile)
     (earlier : List FileRecord) (lt : i < length files) (at : raw ≡ get_or files i raw)
@@ -65,41 +51,38 @@ module _ (before f n : List ℕ) (files : List NamedFile) (i : ℕ) (raw : Named
       sym (length_zip (IsRecordOf before f n) (map named (take i files)) earlier are.each)
       ∙ length_front named files i (omega arith)
 
+  -- the first fault of all files is that of the next file
+  first_at : (why : ManifestWhy) → HasFault before f n earlier (named raw) why
+      → IsFirstFault before f n (map named files) why
+  first_at why fault = record {
+    good = map named (take i files);
+    bad = named raw;
+    rest = map named (drop (suc i) files);
+    files_are = map_around named files i raw lt at;
+    earlier = earlier;
+    records = are;
+    fault = fault;
+  }
+
   -- an error over the next file is one over all files
   pub first_fault : (e : ManifestError)
       → ((es : List FileRecord) → length es ≡ i → BlamesFile before f n es (named raw) e)
       → BlamesFiles before f n (map named files) e
   first_fault Memory blames = tt
-  first_fault (Why why) blames = record {
-    good = map named (take i files);
-    bad = named raw;
-    rest = map named (drop (suc i) files);
-    files_are = map_around named files i raw lt at;
-    earlier = earlier;
-    records = are;
-    fault = blames earlier count;
-  }
+  first_fault (Why why) blames = first_at why (blames earlier count)
 
   -- the next file is one that was seen
   pub repeated : (r : FileRecord) → IsRecordOf before f n (named raw) r
       → list_any (key_eq r.key) (keys_of earlier) ≡ true
       → IsFirstFault before f n (map named files) (DuplicatePath r.path)
-  repeated r is seen = record {
-    good = map named (take i files);
-    bad = named raw;
-    rest = map named (drop (suc i) files);
-    files_are = map_around named files i raw lt at;
-    earlier = earlier;
-    records = are;
-    fault = (
-      is.path_is,
-      record {
-        again = r;
-        is = is;
-        stood = Contains-from_any same_key r.key (keys_of earlier) seen;
-      },
-    );
-  }
+  repeated r is seen = first_at (DuplicatePath r.path) (
+    is.path_is,
+    record {
+      again = r;
+      is = is;
+      stood = Contains-from_any same_key r.key (keys_of earlier) seen;
+    },
+  )
 
   -- an error over the record of the next file is one over all files
   pub seen_fault : (seen : BTreeSet FileKey) (r : FileRecord) (e : ManifestError)

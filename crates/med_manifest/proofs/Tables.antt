@@ -5,8 +5,9 @@ use Rattle.std.proofs.Math.Seq.{take-length}
 use Rattle.std.specs.List.{prefix_len}
 use Rattle.std.proofs.lemmas.List.{take_more}
 use Rattle.std.specs.Str.{bytes_eq}
+use Rattle.std.proofs.lemmas.Bool.{and_parts}
 use Rattle.serde_json.specs.Data.{Data}
-use Rattle.med_base.proofs.Bools.{both, same_bytes}
+use Rattle.med_base.proofs.Bools.{same_bytes}
 use Rattle.med_manifest.specs.declared.manifest.FileRecord.{FileRecord}
 use Rattle.med_manifest.specs.Written.{IsDigest, HaveDigests, Table, tables, with_file, is_same_table, table_data}
 
@@ -14,7 +15,7 @@ use Rattle.med_manifest.specs.Written.{IsDigest, HaveDigests, Table, tables, wit
 pub same_names : (f g : FileRecord) → is_same_table f g ≡ true
     → (f.key.keyspace ≡ g.key.keyspace) × (f.key.table ≡ g.key.table)
 same_names f g e =
-    let parts = both _ _ e in
+    let parts = and_parts _ _ e in
     (same_bytes f.key.keyspace g.key.keyspace parts.0, same_bytes f.key.table g.key.table parts.1)
 
 -- whether the file is of the table with this keyspace and name

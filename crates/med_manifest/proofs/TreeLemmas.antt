@@ -1,5 +1,5 @@
 -- The files of tables, table after table.
-use Rattle.std.proofs.Common.{◌≡◌, ◌∙◌, ◌<◌, ◌+◌, ℕ, suc, Bool, true, true≢false, Option, Some, None, Result, Ok, Err, IfOk, IfSome, refl, sym, ap, subst, List, [], ◌∷◌, ◌++◌, map, flat_map, length, take, drop, get_or, append_assoc, codes, arith}
+use Rattle.std.proofs.Common.{◌≡◌, ◌∙◌, ◌<◌, ◌+◌, ℕ, suc, Bool, true, Option, Some, None, Result, Ok, Err, IfOk, IfSome, refl, sym, ap, subst, List, [], ◌∷◌, ◌++◌, map, flat_map, length, take, drop, get_or, append_assoc, codes, arith}
 use Rattle.std.specs.Prelude.{is_none}
 use Rattle.std.specs.List.{AllZip}
 use Rattle.std.proofs.lemmas.List.{append-nil}
@@ -9,6 +9,7 @@ use Rattle.serde_json.specs.declared.value.Value.{Value}
 use Rattle.serde_json.specs.View.{view, items_view}
 use Rattle.med_base.specs.Names.{component_fault}
 use Rattle.med_base.proofs.Lists.{zip_next, each_has, map_around, length_front}
+use Rattle.med_base.proofs.Options.{none_by_test}
 use Rattle.med_json.specs.Tree.{IsText, text_at, list_at}
 use Rattle.med_json.proofs.TreeLemmas.{items_in-view}
 use Rattle.med_manifest.specs.declared.why.ManifestError.{ManifestError}
@@ -59,14 +60,10 @@ first_unshaped list files i v lt at so none = record {
 
 -- ---- a table
 
-none_from : {X : Type 0} (o : Option X) → true ≡ is_none o → o ≡ None
-none_from None e = refl
-none_from (Some x) e = absurd (true≢false e)
-
 -- a text that was tested is a component
 pub component_from : (text : List ℕ) (b : Bool) → b ≡ is_none (component_fault text) → b ≡ true
     → component_fault text ≡ None
-component_from text b e g = none_from (component_fault text) (sym g ∙ e)
+component_from text b e g = none_by_test (component_fault text) (sym (sym g ∙ e))
 
 pub table_is : (d : Data) (keyspace table : List ℕ) (list : List Value) (files : List Named)
     → text_at (codes "keyspace") d ≡ Some keyspace

@@ -1,16 +1,16 @@
 -- What a call that makes one change leaves of the contents that stood.
 use Rattle.std.proofs.Common.{◌≡◌, ◌∙◌, ◌⊎◌, ◌<◌, ◌≤◌, ◌+◌, ℕ, List, [], ◌∷◌, ◌++◌, Some, refl, sym, ap, inl, inr, arith, append_assoc, leb-true}
 use Rattle.std.specs.Prelude.{is_some}
+use Rattle.std.proofs.lemmas.Bool.{and_parts}
 use Rattle.med_outside.specs.Effects.{after_all}
 use Rattle.med_outside.specs.State.{State, ChangesWithin}
 use Rattle.med_mem.specs.Told.{Note, content_after, ComesAfter, StoodSince, AreMadeBy}
-use Rattle.med_base.proofs.Bools.{both}
 use Rattle.med_mem.proofs.Notes.{after_more}
 
 made_end : (first later : List Note) (calls : ℕ)
     → AreMadeBy calls (first ++ later) → AreMadeBy calls later
 made_end [] later calls by = by
-made_end (n ∷ first) later calls by = made_end first later calls (both _ _ by).1
+made_end (n ∷ first) later calls by = made_end first later calls (and_parts _ _ by).1
 
 no_first : (first later : List Note) → [] ≡ first ++ later → first ≡ []
 no_first [] later e = refl
@@ -43,7 +43,7 @@ earlier_call : (later : List Note) (calls next t : ℕ) → AreMadeBy calls late
     → ComesAfter next t later → ComesAfter calls t later
 earlier_call [] calls next t by after = tt
 earlier_call (n ∷ later) calls next t by after =
-    let call : n.call ≤ calls = leb-true n.call calls (both _ _ by).0 in
+    let call : n.call ≤ calls = leb-true n.call calls (and_parts _ _ by).0 in
     let less : t < n.call = after.0 in
     (less, omega arith)
 

@@ -1,11 +1,11 @@
 -- What one change more leaves, and that no change was made in a later call.
-use Rattle.std.proofs.Common.{◌≡◌, ◌∙◌, ◌≤◌, ◌&&◌, ℕ, Bool, true, false, List, [], ◌∷◌, ◌++◌, map, length, IsTrue, refl, sym, ap, arith, leb-true, le-leb}
+use Rattle.std.proofs.Common.{◌≡◌, ◌∙◌, ◌≤◌, ◌&&◌, ℕ, Bool, true, false, List, [], ◌∷◌, ◌++◌, map, IsTrue, refl, sym, ap, arith, leb-true, le-leb}
 use Rattle.std.specs.FinMap.{empty, entries, entries-insert, len-entries, len-empty}
 use Rattle.std.specs.Ordering.{nat_cmp}
 use Rattle.std.specs.Cmp.Lexicographic.{slice_cmp, nat_list_cmp_total}
-use Rattle.std.proofs.lemmas.List.{map-append}
+use Rattle.std.proofs.lemmas.List.{map-append, nil_from_length}
+use Rattle.std.proofs.lemmas.Bool.{and_parts}
 use Rattle.med_base.specs.Content.{Content, Object}
-use Rattle.med_base.proofs.Bools.{both}
 use Rattle.med_outside.specs.Effects.{Effect, made, applied}
 use Rattle.med_mem.specs.declared.object.MemObject.{MemObject}
 use Rattle.med_mem.specs.declared.object.Change.{Change}
@@ -13,24 +13,24 @@ use Rattle.med_mem.specs.Objects.{pairs, put_at, noted, Tells, IsStored, IsNoted
 use Rattle.med_mem.specs.Told.{Note, content_after, AreMadeBy}
 use Rattle.med_mem.specs.Calls.{note_of}
 
-join : (a b : Bool) → IsTrue a → IsTrue b → IsTrue (a && b)
-join true b e f = f
-join false b e f = absurd (cc)
+both_true : (a b : Bool) → IsTrue a → IsTrue b → IsTrue (a && b)
+both_true true b e f = f
+both_true false b e f = absurd (cc)
 
 made_later : (notes : List Note) (a b : ℕ) → a ≤ b → AreMadeBy a notes → AreMadeBy b notes
 made_later [] a b le by = refl
 made_later (n ∷ notes) a b le by =
-    let parts = both _ _ by in
+    let parts = and_parts _ _ by in
     let call : n.call ≤ a = leb-true n.call a parts.0 in
-    join _ _ (le-leb n.call b (omega arith)) (made_later notes a b le parts.1)
+    both_true _ _ (le-leb n.call b (omega arith)) (made_later notes a b le parts.1)
 
 made_more : (notes : List Note) (a b : ℕ) (n : Note) → a ≤ b → n.call ≤ b
     → AreMadeBy a notes → AreMadeBy b (notes ++ n ∷ [])
-made_more [] a b n le call by = join _ _ (le-leb n.call b call) refl
+made_more [] a b n le call by = both_true _ _ (le-leb n.call b call) refl
 made_more (m ∷ notes) a b n le call by =
-    let parts = both _ _ by in
+    let parts = and_parts _ _ by in
     let first : m.call ≤ a = leb-true m.call a parts.0 in
-    join _ _ (le-leb m.call b (omega arith)) (made_more notes a b n le call parts.1)
+    both_true _ _ (le-leb m.call b (omega arith)) (made_more notes a b n le call parts.1)
 
 applied_more : (xs : List Effect) (x : Effect) (c : Content)
     → applied (xs ++ x ∷ []) c ≡ made x (applied xs c)
@@ -77,9 +77,7 @@ tells_more os os' cs cs' calls call path bytes second le notes objects told =
       made_by = rw notes (made_more (noted cs) calls call n le (omega arith) told.made_by);
     }
 
-no_length : {A : Type 0} (es : List A) → length es ≡ 0 → es ≡ []
-no_length [] e = refl
-no_length (x ∷ es) e = absurd (omega arith)
-
-pub nothing : entries (empty {K = List ℕ} {X = Object} {R = slice_cmp nat_cmp}) ≡ []
-nothing = no_length (entries empty) (sym (len-entries empty) ∙ len-empty (slice_cmp nat_cmp) Object)
+pub no_entries : entries (empty {K = List ℕ} {X = Object} {R = slice_cmp nat_cmp}) ≡ []
+no_entries =
+    nil_from_length (entries empty)
+    (sym (len-entries empty) ∙ len-empty (slice_cmp nat_cmp) Object)

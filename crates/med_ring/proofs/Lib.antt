@@ -1,5 +1,4 @@
 pub mod Canonical
-pub mod Cuts
 pub mod Faults
 pub mod MemberLemmas
 pub mod OneCause

@@ -1,8 +1,10 @@
 -- Bytes are refused for one cause at most.
-use Rattle.std.proofs.Common.{◌≡◌, ◌∙◌, ◌⊎◌, inl, inr, ℕ, ℤ, List, [], ◌∷◌, ◌++◌, Some, sym, ap, subst, string_bytes}
+use Rattle.std.proofs.Common.{◌≡◌, ◌∙◌, inl, inr, ℕ, ℤ, List, ◌∷◌, ◌++◌, Some, sym, ap, subst, string_bytes}
 use Rattle.std.specs.List.{AllZip}
 use Rattle.serde_json.specs.Data.{Data, Members}
 use Rattle.serde_json.specs.Find.{as_object}
+use Rattle.med_base.proofs.Cuts.{Cuts, two_cuts, first_failing_once}
+use Rattle.med_base.proofs.Lists.{each_has}
 use Rattle.med_json.specs.Tree.{IsText, members_in}
 use Rattle.med_json.proofs.TreeLemmas.{tree_once, no_text, members_once}
 use Rattle.med_ring.specs.declared.error.RingWhy.TheVariants.{NotJson, NotRing, TokenRange, TokenTwice}
@@ -20,25 +22,6 @@ Member = List ℕ × Data
 abbrev IsNoHost : Member → Type 0
 IsNoHost m = (h : RingHost) → IsHost m h → ⊥
 
--- the first member that is no host is one
-first_same : (b : List Member) (x : Member) (r : List Member) (hs : List RingHost)
-    (c : List Member) (y : Member) (s : List Member) (gs : List RingHost)
-    → b ++ x ∷ r ≡ c ++ y ∷ s → AllZip IsHost b hs → AllZip IsHost c gs → IsNoHost x → IsNoHost y
-    → x ≡ y
-first_same [] x r hs [] y s gs e p q no_x no_y = cc e
-first_same [] x r hs (n ∷ c) y s [] e p q no_x no_y = absurd q
-first_same [] x r hs (n ∷ c) y s (g ∷ gs) e p q no_x no_y =
-    let is : n ≡ x = cc e in
-    absurd (no_x g (subst (λ (m : Member). IsHost m g) is q.0))
-first_same (m ∷ b) x r [] c y s gs e p q no_x no_y = absurd p
-first_same (m ∷ b) x r (h ∷ hs) [] y s gs e p q no_x no_y =
-    let is : m ≡ y = cc e in
-    absurd (no_y h (subst (λ (n : Member). IsHost n h) is p.0))
-first_same (m ∷ b) x r (h ∷ hs) (n ∷ c) y s [] e p q no_x no_y = absurd q
-first_same (m ∷ b) x r (h ∷ hs) (n ∷ c) y s (g ∷ gs) e p q no_x no_y =
-    let rest : b ++ x ∷ r ≡ c ++ y ∷ s = cc e in
-    first_same b x r hs c y s gs rest p.1 q.1 no_x no_y
-
 -- the member at fault is one
 bad_same : (f g : Member → Type 0) (bytes name other : List ℕ)
     → ((m : Member) → f m → IsNoHost m) → ((m : Member) → g m → IsNoHost m)
@@ -50,38 +33,18 @@ bad_same f g bytes name other no_f no_g p q =
     let e : p.first.before ++ p.first.bad ∷ p.first.rest
     ≡ q.first.before ++ q.first.bad ∷ q.first.rest =
     sym p.first.cut ∙ ap members_in members ∙ q.first.cut in
-    first_same p.first.before p.first.bad p.first.rest p.first.hosts q.first.before q.first.bad
-    q.first.rest q.first.hosts e p.first.hosts_before q.first.hosts_before
-    (no_f p.first.bad p.first.at_fault) (no_g q.first.bad q.first.at_fault)
+    (first_failing_once (λ m. (h : RingHost) × IsHost m h) p.first.before p.first.bad p.first.rest
+    q.first.before q.first.bad q.first.rest e
+    (each_has IsHost p.first.before p.first.hosts p.first.hosts_before)
+    (each_has IsHost q.first.before q.first.hosts q.first.hosts_before)
+    (λ h. no_f p.first.bad p.first.at_fault h.0 h.1)
+    (λ h. no_g q.first.bad q.first.at_fault h.0 h.1)).1
 
--- one list, cut at two places
-abbrev Cuts : List ℤ → ℤ → List ℤ → ℤ → Type 0
-Cuts b s c t =
-    (s ≡ t) ⊎ (((m : List ℤ) × (c ≡ b ++ s ∷ m)) ⊎ ((m : List ℤ) × (b ≡ c ++ t ∷ m)))
-
-cuts_more : (x y : ℤ) (b : List ℤ) (s : ℤ) (c : List ℤ) (t : ℤ) → x ≡ y → Cuts b s c t
-    → Cuts (x ∷ b) s (y ∷ c) t
-cuts_more x y b s c t e (inl is) = inl is
-cuts_more x y b s c t e (inr (inl (m, is))) = inr (inl (m, λ i. sym e i ∷ is i))
-cuts_more x y b s c t e (inr (inr (m, is))) = inr (inr (m, λ i. e i ∷ is i))
-
-two_cuts : (b : List ℤ) (s : ℤ) (r : List ℤ) (c : List ℤ) (t : ℤ) (u : List ℤ)
-    → b ++ s ∷ r ≡ c ++ t ∷ u → Cuts b s c t
-two_cuts [] s r [] t u e = inl (cc e)
-two_cuts [] s r (y ∷ c) t u e =
-    let is : y ≡ s = cc e in inr (inl (c, λ i. is i ∷ c))
-two_cuts (x ∷ b) s r [] t u e =
-    let is : x ≡ t = cc e in inr (inr (b, λ i. is i ∷ b))
-two_cuts (x ∷ b) s r (y ∷ c) t u e =
-    let first : x ≡ y = cc e in
-    let rest : b ++ s ∷ r ≡ c ++ t ∷ u = cc e in
-    cuts_more x y b s c t first (two_cuts b s r c t u rest)
-
-decide : (s t : ℤ) (ts : List ℤ) (p : IsFirstTwice ts s) (q : IsFirstTwice ts t)
-    → Cuts p.before s q.before t → s ≡ t
-decide s t ts p q (inl is) = is
-decide s t ts p q (inr (inl (m, is))) =
-    absurd (twice_not_distinct q.before s
+-- no token that stood before stands before another that is the first
+no_earlier : (s t : ℤ) (ts : List ℤ) (p : IsFirstTwice ts s) (q : IsFirstTwice ts t) (m : List ℤ)
+    → q.before ≡ p.before ++ s ∷ m → ⊥
+no_earlier s t ts p q m is =
+    twice_not_distinct q.before s
     (record {
       before = p.before;
       rest = m;
@@ -89,22 +52,18 @@ decide s t ts p q (inr (inl (m, is))) =
       stood = p.stood;
       distinct = p.distinct;
     })
-    q.distinct)
-decide s t ts p q (inr (inr (m, is))) =
-    absurd (twice_not_distinct p.before t
-    (record {
-      before = q.before;
-      rest = m;
-      cut = is;
-      stood = q.stood;
-      distinct = q.distinct;
-    })
-    p.distinct)
+    q.distinct
+
+one_twice : (s t : ℤ) (ts : List ℤ) (p : IsFirstTwice ts s) (q : IsFirstTwice ts t)
+    → Cuts p.before s q.before t → s ≡ t
+one_twice s t ts p q (inl is) = is.1
+one_twice s t ts p q (inr (inl (m, is))) = absurd (no_earlier s t ts p q m is)
+one_twice s t ts p q (inr (inr (m, is))) = absurd (no_earlier t s ts q p m is)
 
 -- the first token that stood before is one
 twice_same : (s t : ℤ) (ts : List ℤ) → IsFirstTwice ts s → IsFirstTwice ts t → s ≡ t
 twice_same s t ts p q =
-    decide s t ts p q (two_cuts p.before s p.rest q.before t q.rest (sym p.cut ∙ q.cut))
+    one_twice s t ts p q (two_cuts p.before s p.rest q.before t q.rest (sym p.cut ∙ q.cut))
 
 tokens_same : (bytes : List ℕ) (s t : ℤ) → HasTwice bytes s → HasTwice bytes t → s ≡ t
 tokens_same bytes s t p q =

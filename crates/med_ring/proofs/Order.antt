@@ -11,12 +11,12 @@ use Rattle.serde_json.specs.Data.{Data, member, put}
 use Rattle.serde_json.specs.View.{members_view}
 use Rattle.serde_json.specs.declared.value.Value.{Value}
 use Rattle.med_base.specs.Kinds.{IsFqdn}
+use Rattle.med_base.proofs.Lists.{split_at}
 use Rattle.med_ring.specs.declared.ring.Host.{Host}
 use Rattle.med_ring.specs.Host.{RingHost, host_view, names_in, tokens_in, HasRisingNames, AreInRange, KeepsRules}
 use Rattle.med_ring.specs.Ring.{IsHost}
 use Rattle.med_json.specs.Tree.{members_in}
 use Rattle.med_ring.specs.Written.{host_data, members_data}
-use Rattle.med_ring.proofs.Cuts.{cut_at}
 
 -- the name is below each of these
 abbrev IsBelow : List ℕ → List (List ℕ) → Type 0
@@ -48,7 +48,7 @@ next_host hosts i x lt at rise =
     let whole : map host_view (take i hosts) ++ host_view x ∷ map host_view (drop (i + 1) hosts)
     ≡ map host_view hosts =
     sym (map-append host_view (take i hosts) (x ∷ drop (i + 1) hosts))
-    ∙ ap (map host_view) (cut_at hosts i x lt at) in
+    ∙ ap (map host_view) (sym (split_at hosts i x lt at)) in
     let before = map host_view (take i hosts) in
     let more : map host_view (take (i + 1) hosts) ≡ before ++ host_view x ∷ [] =
     ap (map host_view) (take_more hosts i x lt ∙ ap (λ (v : Host). take i hosts ++ v ∷ [])

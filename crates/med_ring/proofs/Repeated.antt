@@ -11,8 +11,7 @@ use Rattle.med_ring.specs.declared.error.RingError.TheVariants.{Why, Memory}
 use Rattle.med_ring.specs.declared.ring.Host.{Host}
 use Rattle.med_ring.specs.Host.{RingHost, host_view, tokens_in, IsInRange, AreInRange}
 use Rattle.med_ring.specs.Twice.{IsFirstTwice, BlamesTokens}
-use Rattle.med_base.proofs.Lists.{all_append}
-use Rattle.med_ring.proofs.Cuts.{cut_at}
+use Rattle.med_base.proofs.Lists.{all_append, split_at}
 
 -- where a token stood before, the tokens are not distinct
 pub twice_not_distinct : (ts : List ℤ) (t : ℤ) → IsFirstTwice ts t → IsDistinct int_eq ts → ⊥
@@ -59,7 +58,7 @@ pub tokens_cut : (hosts : List Host) (i : ℕ) (x : Host) → i < length hosts �
     ≡ (tokens_in (map host_view (take i hosts)) ++ (host_view x).tokens)
     ++ tokens_in (map host_view (drop (i + 1) hosts))
 tokens_cut hosts i x lt at =
-    ap (λ (hs : List Host). tokens_in (map host_view hs)) (sym (cut_at hosts i x lt at))
+    ap (λ (hs : List Host). tokens_in (map host_view hs)) (split_at hosts i x lt at)
     ∙ ap tokens_in (map-append host_view (take i hosts) (x ∷ drop (i + 1) hosts))
     ∙ tokens_append (map host_view (take i hosts)) (map host_view (x ∷ drop (i + 1) hosts))
     ∙ sym (append_assoc (tokens_in (map host_view (take i hosts))) (host_view x).tokens

@@ -3,6 +3,7 @@ use Rattle.std.proofs.Common.{◌≡◌, ◌∙◌, ◌&&◌, ◌||◌, Bool, co
 use Rattle.std.specs.List.{find, fold, list_any, AllByRecursion}
 use Rattle.std.specs.Option.{option_map_or, is_some}
 use Rattle.std.specs.Str.{bytes_eq}
+use Rattle.std.proofs.lemmas.Bool.{or_parts, not-false}
 use Rattle.clap.specs.Kinds.{Kinds}
 use Rattle.clap.specs.Walk.{Row, Rule, has_row, with_default, more_values}
 use Rattle.clap.specs.Takes.{is_given}
@@ -15,7 +16,7 @@ use Rattle.med_words.specs.Grammar.{Text, Opt, valued, flag, Use, alone, joined,
 use Rattle.med_words.specs.Matched.{is_flag, has_flag}
 use Rattle.med_words.proofs.Rows.{rules, rule_for, value_rule, flag_rule, rows, row_for, at_absent}
 use Rattle.med_words.proofs.Steps.{or_else_join}
-use Rattle.med_base.proofs.Bools.{or_false, not_false, same_bytes}
+use Rattle.med_base.proofs.Bools.{same_bytes}
 
 -- ---- defaults pass
 
@@ -105,30 +106,31 @@ has_row_some n (r ∷ rs) = go (bytes_eq r.id n) (has_row_some n rs)
     go true e = refl
     go false e = e
 
-step_other : (n : Text) (o : Opt) (rs : List Row) → is_flag n o ≡ false
-    → row_at n (with_default rs (rule_for o)) ≡ row_at n rs
-step_other n (valued m q) rs e = ap (row_at n) (keeps_value m q rs)
-step_other n (flag m) rs e = go (has_row m rs) refl
+-- a flag changes no row that its default row doesn't change
+flag_passes : (n m : Text) (rs : List Row) → row_at n (rs ++ default_row m ∷ []) ≡ row_at n rs
+    → row_at n (with_default rs (flag_rule m)) ≡ row_at n rs
+flag_passes n m rs same = go (has_row m rs) refl
   where
     go : (b : Bool) → has_row m rs ≡ b → row_at n (with_default rs (flag_rule m)) ≡ row_at n rs
     go true h = ap (row_at n) (keeps_flag m rs h)
-    go false h = ap (row_at n) (adds_flag m rs h) ∙ row_at_skip n rs (default_row m) e
+    go false h = ap (row_at n) (adds_flag m rs h) ∙ same
+
+step_other : (n : Text) (o : Opt) (rs : List Row) → is_flag n o ≡ false
+    → row_at n (with_default rs (rule_for o)) ≡ row_at n rs
+step_other n (valued m q) rs e = ap (row_at n) (keeps_value m q rs)
+step_other n (flag m) rs e = flag_passes n m rs (row_at_skip n rs (default_row m) e)
 
 pub row_other : (n : Text) (table : List Opt) (rs : List Row) → has_flag n table ≡ false
     → row_at n (fold with_default rs (rules table)) ≡ row_at n rs
 row_other n [] rs e = refl
-row_other n (o ∷ rest) rs e = row_other n rest (with_default rs (rule_for o)) (or_false _ _ e).1
-    ∙ step_other n o rs (or_false _ _ e).0
+row_other n (o ∷ rest) rs e = row_other n rest (with_default rs (rule_for o)) (or_parts _ _ e).1
+    ∙ step_other n o rs (or_parts _ _ e).0
 
 -- a row that is there stays
 step_kept : (n : Text) (o : Opt) (rs : List Row) → has_row n rs ≡ true
     → row_at n (with_default rs (rule_for o)) ≡ row_at n rs
 step_kept n (valued m q) rs e = ap (row_at n) (keeps_value m q rs)
-step_kept n (flag m) rs e = go (has_row m rs) refl
-  where
-    go : (b : Bool) → has_row m rs ≡ b → row_at n (with_default rs (flag_rule m)) ≡ row_at n rs
-    go true h = ap (row_at n) (keeps_flag m rs h)
-    go false h = ap (row_at n) (adds_flag m rs h) ∙ row_at_append n rs (default_row m ∷ []) e
+step_kept n (flag m) rs e = flag_passes n m rs (row_at_append n rs (default_row m ∷ []) e)
 
 same_has : (n : Text) (a b : List Row) → row_at n a ≡ row_at n b → has_row n a ≡ has_row n b
 same_has n a b e = has_row_some n a ∙ ap is_some e ∙ sym (has_row_some n b)
@@ -172,33 +174,23 @@ row_default n (o ∷ rest) rs e f = go (is_flag n o) refl f
 
 -- ---- the required options
 
-given_rows : (n : Text) (us : List Use) → option_map_or (λ (r : Row). explicit_source r.source)
-    (row_at n (rows us)) false ≡ is_used n us
+abbrev is_explicit : Option Row → Bool
+is_explicit o = option_map_or (λ (r : Row). explicit_source r.source) o false
+
+given_step : (n : Text) (us : List Use) (r : Row) → explicit_source r.source ≡ true → (b : Bool)
+    → is_explicit (row_at n (rows us)) ≡ is_used n us
+    → is_explicit (cond b (Some r) (row_at n (rows us))) ≡ (b || is_used n us)
+given_step n us r told true e = told
+given_step n us r told false e = e
+
+given_rows : (n : Text) (us : List Use) → is_explicit (row_at n (rows us)) ≡ is_used n us
 given_rows n [] = refl
-given_rows n (alone m ∷ us) = go (bytes_eq m n) (given_rows n us)
-  where
-    go : (b : Bool) → option_map_or (λ (r : Row). explicit_source r.source)
-        (row_at n (rows us)) false ≡ is_used n us
-        → option_map_or (λ (r : Row). explicit_source r.source)
-        (cond b (Some (row_for (alone m))) (row_at n (rows us))) false ≡ (b || is_used n us)
-    go true e = refl
-    go false e = e
-given_rows n (joined m v ∷ us) = go (bytes_eq m n) (given_rows n us)
-  where
-    go : (b : Bool) → option_map_or (λ (r : Row). explicit_source r.source)
-        (row_at n (rows us)) false ≡ is_used n us
-        → option_map_or (λ (r : Row). explicit_source r.source)
-        (cond b (Some (row_for (joined m v))) (row_at n (rows us))) false ≡ (b || is_used n us)
-    go true e = refl
-    go false e = e
-given_rows n (apart m v ∷ us) = go (bytes_eq m n) (given_rows n us)
-  where
-    go : (b : Bool) → option_map_or (λ (r : Row). explicit_source r.source)
-        (row_at n (rows us)) false ≡ is_used n us
-        → option_map_or (λ (r : Row). explicit_source r.source)
-        (cond b (Some (row_for (apart m v))) (row_at n (rows us))) false ≡ (b || is_used n us)
-    go true e = refl
-    go false e = e
+given_rows n (alone m ∷ us) =
+    given_step n us (row_for (alone m)) refl (bytes_eq m n) (given_rows n us)
+given_rows n (joined m v ∷ us) =
+    given_step n us (row_for (joined m v)) refl (bytes_eq m n) (given_rows n us)
+given_rows n (apart m v ∷ us) =
+    given_step n us (row_for (apart m v)) refl (bytes_eq m n) (given_rows n us)
 
 module _ (table : List Opt) (uses : List Use) where
   abbrev pub end_rows : List Row
@@ -211,8 +203,7 @@ module _ (table : List Opt) (uses : List Use) where
 
   given_is : (n : Text) → has_flag n table ≡ false → is_given n end_rows ≡ is_used n uses
   given_is n e =
-      ap (λ (o : Option Row). option_map_or (λ (r : Row). explicit_source r.source) o false)
-      (row_other n table (rows uses) e) ∙ given_rows n uses
+      ap is_explicit (row_other n table (rows uses) e) ∙ given_rows n uses
 
   abbrev lacking : List Opt → Bool
   lacking t = list_any (λ (a : Rule). a.required && not (is_given a.id end_rows)) (rules t)
@@ -221,8 +212,8 @@ module _ (table : List Opt) (uses : List Use) where
       → AllByRecursion (IsMet uses) t
   met_from [] c e = tt
   met_from (valued n true ∷ rest) c e = (
-    sym (given_is n c.0) ∙ not_false (is_given n end_rows) (or_false _ _ e).0,
-    met_from rest c.1 (or_false _ _ e).1,
+    sym (given_is n c.0) ∙ not-false (is_given n end_rows) (or_parts _ _ e).0,
+    met_from rest c.1 (or_parts _ _ e).1,
   )
   met_from (valued n false ∷ rest) c e = (tt, met_from rest c.1 e)
   met_from (flag n ∷ rest) c e = (tt, met_from rest c.1 e)

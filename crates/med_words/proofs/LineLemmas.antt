@@ -2,6 +2,7 @@
 use Rattle.std.proofs.Common.{◌≡◌, ◌∙◌, ◌&&◌, ◌||◌, Bool, true, false, not, true≢false, refl, sym, ap, List, [], ◌∷◌, Option, Some, None, codes, is_some}
 use Rattle.std.specs.List.{list_all, list_any, AllByRecursion}
 use Rattle.std.specs.Str.{bytes_eq}
+use Rattle.std.proofs.lemmas.Bool.{and_parts, not-true}
 use Rattle.med_words.specs.Grammar.{Text, Row, value_in}
 use Rattle.med_words.specs.Matched.{has_flag, has_valued}
 use Rattle.med_words.specs.Tables.{commands}
@@ -9,7 +10,7 @@ use Rattle.med_words.specs.Values.{given_or}
 use Rattle.med_words.specs.Views.{HasLine}
 use Rattle.med_words.specs.declared.line.Line.{Line}
 use Rattle.med_words.proofs.OwnLemmas.{of_row, needs, needed_value, no_value}
-use Rattle.med_base.proofs.Bools.{both, or_right, or_left, not_true, same_bytes, bytes_same}
+use Rattle.med_base.proofs.Bools.{or_right, or_left, same_bytes, bytes_same}
 
 -- the commands that take the name of a backup, and the others
 abbrev pub with_names : List Text
@@ -56,9 +57,9 @@ module _ (words : List Text) (l : Line) (h : HasLine words l) where
       → (needs n h.line.options && not (has_flag n h.line.options)) ≡ true
       → is_some (value_in n h.own) ≡ true
   value_of_needed n b e =
-      let parts = both (needs n h.line.options) (not (has_flag n h.line.options)) e in
+      let parts = and_parts (needs n h.line.options) (not (has_flag n h.line.options)) e in
       needed_value h.line.options h.own n h.line.own_fit h.line.own_required
-      (not_true (has_flag n h.line.options) parts.1) parts.0
+      (not-true (has_flag n h.line.options) parts.1) parts.0
 
   -- a required option has a value
   pub needed : (w n : Text) → list_all (asks w n) commands ≡ true → l.word.now ≡ w
@@ -77,7 +78,7 @@ module _ (words : List Text) (l : Line) (h : HasLine words l) where
       let n = codes "backup-name" in
       let row = of_row (takes_among n with_names) commands refl l.word.now h.line.options
       h.line.command_is in
-      let lacks = not_true (has_valued n h.line.options)
+      let lacks = not-true (has_valued n h.line.options)
       (or_left (not (has_valued n h.line.options)) _ row (none_among l.word.now with_names none)) in
       true≢false (sym (read_some read (value_in n h.own) name e)
       ∙ ap is_some (no_value h.line.options h.own n h.line.own_fit lacks))

@@ -1,15 +1,15 @@
 -- `name` and `name=value`, cut and joined.
 use Rattle.std.proofs.Common.{◌≡◌, ◌∙◌, ◌+◌, ◌||◌, ◌==◌, ℕ, Bool, true, false, zero, suc, refl, sym, ap, arith, List, [], ◌∷◌, ◌++◌, take, drop, Some, None, true≢false, eqb-true, eq-eqb}
 use Rattle.std.specs.List.{before_first, after_first, position_or_len}
+use Rattle.std.proofs.lemmas.Bool.{or_parts}
 use Rattle.clap.specs.Lexer.{name_and_value, has_byte}
 use Rattle.clap.proofs.CutLemmas.{Lacks, before_first-Lacks, before_first-at, after_first-at, list_any-at}
-use Rattle.med_base.proofs.Bools.{or_false}
 
 pub lacks : (c : ℕ) (xs : List ℕ) → has_byte c xs ≡ false → Lacks c xs
 lacks c [] e i lt = absurd (omega arith)
 lacks c (x ∷ xs) e zero lt = λ same. true≢false
-    (sym (eq-eqb x c same) ∙ (or_false (x == c) (has_byte c xs) e).0)
-lacks c (x ∷ xs) e (suc i) lt = lacks c xs (or_false (x == c) (has_byte c xs) e).1 i (omega arith)
+    (sym (eq-eqb x c same) ∙ (or_parts (x == c) (has_byte c xs) e).0)
+lacks c (x ∷ xs) e (suc i) lt = lacks c xs (or_parts (x == c) (has_byte c xs) e).1 i (omega arith)
 
 pub alone_text : (n : List ℕ) → has_byte 61 n ≡ false → name_and_value n ≡ (n, None)
 alone_text n e = rw (before_first-Lacks 61 n (lacks 61 n e), e) refl

@@ -3,18 +3,19 @@ use Rattle.std.proofs.Common.{◌≡◌, ◌∙◌, ◌&&◌, ◌||◌, Bool, co
 use Rattle.std.specs.List.{find, list_all, list_any, AllByRecursion}
 use Rattle.std.specs.Option.{option_map, is_none}
 use Rattle.std.specs.Str.{bytes_eq}
-use Rattle.med_words.specs.Grammar.{Text, Opt, valued, flag, Use, alone, joined, apart, Row, Commands, options_of, Fits, IsMet, is_used, value_in}
+use Rattle.std.proofs.lemmas.Bool.{and_parts}
+use Rattle.med_words.specs.Grammar.{Text, Opt, valued, flag, Use, alone, joined, apart, Row, Commands, options_of, Fits, IsMet, is_used, value_in, opt_of}
 use Rattle.med_words.specs.Matched.{has_flag, has_valued}
 use Rattle.med_words.specs.Values.{given_or, fails}
 use Rattle.med_words.proofs.RowsHeld.{no_flag, no_valued}
-use Rattle.med_base.proofs.Bools.{both, same_bytes}
+use Rattle.med_base.proofs.Bools.{same_bytes}
 
 -- what holds of each row holds of that of a command word
 pub of_row : (p : Row → Bool) (cs : Commands) → list_all p cs ≡ true → (w : Text) (t : List Opt)
     → options_of cs w ≡ Some t → p (w, t) ≡ true
 of_row p [] all w t e = cc e
 of_row p (c ∷ cs) all w t e =
-    let h = both (p c) (list_all p cs) all in
+    let h = and_parts (p c) (list_all p cs) all in
     go (bytes_eq c.0 w) refl h.0 e (of_row p cs h.1 w t)
   where
     go : (b : Bool) → bytes_eq c.0 w ≡ b → p c ≡ true
@@ -35,6 +36,12 @@ is_needed n (flag m) = false
 abbrev pub needs : Text → List Opt → Bool
 needs n t = list_any (is_needed n) t
 
+used_step : (us : List Use) (n v : Text) (b : Bool) → (b || is_used n us) ≡ true
+    → (is_used n us ≡ true → is_some (value_in n us) ≡ true)
+    → is_some (cond b (Some v) (value_in n us)) ≡ true
+used_step us n v true h more = refl
+used_step us n v false h more = more h
+
 used_value : (t : List Opt) (us : List Use) (n : Text) → AllByRecursion (Fits t) us
     → has_flag n t ≡ false → is_used n us ≡ true → is_some (value_in n us) ≡ true
 used_value t [] n fit none e = absurd (true≢false (sym e))
@@ -47,39 +54,34 @@ used_value t (alone m ∷ us) n fit none e =
     go true at h more = absurd (no_flag t m n at fit.0 none)
     go false at h more = more h
 used_value t (joined m v ∷ us) n fit none e =
-    go (bytes_eq m n) e (used_value t us n fit.1 none)
-  where
-    go : (b : Bool) → (b || is_used n us) ≡ true
-        → (is_used n us ≡ true → is_some (value_in n us) ≡ true)
-        → is_some (cond b (Some v) (value_in n us)) ≡ true
-    go true h more = refl
-    go false h more = more h
+    used_step us n v (bytes_eq m n) e (used_value t us n fit.1 none)
 used_value t (apart m v ∷ us) n fit none e =
-    go (bytes_eq m n) e (used_value t us n fit.1 none)
-  where
-    go : (b : Bool) → (b || is_used n us) ≡ true
-        → (is_used n us ≡ true → is_some (value_in n us) ≡ true)
-        → is_some (cond b (Some v) (value_in n us)) ≡ true
-    go true h more = refl
-    go false h more = more h
+    used_step us n v (bytes_eq m n) e (used_value t us n fit.1 none)
 
-met : (us : List Use) (t : List Opt) (n : Text) → AllByRecursion (IsMet us) t → needs n t ≡ true
-    → is_used n us ≡ true
-met us [] n all e = absurd (true≢false (sym e))
-met us (valued m true ∷ t) n all e = go (bytes_eq m n) refl e (met us t n all.1)
+needed_is_used : (us : List Use) (t : List Opt) (n : Text) → AllByRecursion (IsMet us) t
+    → needs n t ≡ true → is_used n us ≡ true
+needed_is_used us [] n all e = absurd (true≢false (sym e))
+needed_is_used us (valued m true ∷ t) n all e =
+    go (bytes_eq m n) refl e (needed_is_used us t n all.1)
   where
     go : (b : Bool) → bytes_eq m n ≡ b → (b || needs n t) ≡ true
         → (needs n t ≡ true → is_used n us ≡ true) → is_used n us ≡ true
     go true at h more = ap (λ x. is_used x us) (sym (same_bytes m n at)) ∙ all.0
     go false at h more = more h
-met us (valued m false ∷ t) n all e = met us t n all.1 e
-met us (flag m ∷ t) n all e = met us t n all.1 e
+needed_is_used us (valued m false ∷ t) n all e = needed_is_used us t n all.1 e
+needed_is_used us (flag m ∷ t) n all e = needed_is_used us t n all.1 e
 
 -- a required option has a value
 pub needed_value : (t : List Opt) (us : List Use) (n : Text) → AllByRecursion (Fits t) us
     → AllByRecursion (IsMet us) t → has_flag n t ≡ false → needs n t ≡ true
     → is_some (value_in n us) ≡ true
-needed_value t us n fit all none e = used_value t us n fit none (met us t n all e)
+needed_value t us n fit all none e = used_value t us n fit none (needed_is_used us t n all e)
+
+no_value_step : (t : List Opt) (us : List Use) (m n v : Text) (q : Bool)
+    → opt_of t m ≡ Some (valued m q) → has_valued n t ≡ false → (b : Bool) → bytes_eq m n ≡ b
+    → value_in n us ≡ None → cond b (Some v) (value_in n us) ≡ None
+no_value_step t us m n v q found none true at more = absurd (no_valued t m n q at found none)
+no_value_step t us m n v q found none false at more = more
 
 -- an option that isn't in the table has no value
 pub no_value : (t : List Opt) (us : List Use) (n : Text) → AllByRecursion (Fits t) us
@@ -90,18 +92,10 @@ no_value t (alone m ∷ us) n fit none = go (bytes_eq m n) (no_value t us n fit.
     go : (b : Bool) → value_in n us ≡ None → cond b None (value_in n us) ≡ None
     go true more = refl
     go false more = more
-no_value t (joined m v ∷ us) n fit none = go (bytes_eq m n) refl (no_value t us n fit.1 none)
-  where
-    go : (b : Bool) → bytes_eq m n ≡ b → value_in n us ≡ None
-        → cond b (Some v) (value_in n us) ≡ None
-    go true at more = absurd (no_valued t m n fit.0.0 at fit.0.1 none)
-    go false at more = more
-no_value t (apart m v ∷ us) n fit none = go (bytes_eq m n) refl (no_value t us n fit.1 none)
-  where
-    go : (b : Bool) → bytes_eq m n ≡ b → value_in n us ≡ None
-        → cond b (Some v) (value_in n us) ≡ None
-    go true at more = absurd (no_valued t m n fit.0.0 at fit.0.1 none)
-    go false at more = more
+no_value t (joined m v ∷ us) n fit none =
+    no_value_step t us m n v fit.0.0 fit.0.1 none (bytes_eq m n) refl (no_value t us n fit.1 none)
+no_value t (apart m v ∷ us) n fit none =
+    no_value_step t us m n v fit.0.0 fit.0.1 none (bytes_eq m n) refl (no_value t us n fit.1 none)
 
 -- ---- values that are read
 

@@ -3,19 +3,19 @@ use Rattle.std.proofs.Common.{◌≡◌, Bool, cond, true, false, not, refl, sub
 use Rattle.std.specs.List.{find, list_all}
 use Rattle.std.specs.Option.{option_map}
 use Rattle.std.specs.Str.{bytes_eq}
+use Rattle.std.proofs.lemmas.Bool.{and_parts, not-true}
 use Rattle.clap.specs.Walk.{Row, first_of, one_of}
 use Rattle.med_words.specs.Grammar.{Text, Opt, Use, Row as Command, Commands, options_of, is_used, value_in}
 use Rattle.med_words.specs.Matched.{HasRows, FlagRow, has_flag, has_valued, main_rows, own_rows}
 use Rattle.med_words.specs.Said.{said_by, main_said_by}
 use Rattle.med_words.specs.Tables.{main_options, commands}
-use Rattle.med_base.proofs.Bools.{both, not_true}
 
 -- what holds of each table holds of that of a command word
 pub of_each : (p : List Opt → Bool) (cs : Commands) → list_all (λ (c : Command). p c.1) cs ≡ true
     → (w : Text) (t : List Opt) → options_of cs w ≡ Some t → p t ≡ true
 of_each p [] all w t e = cc e
 of_each p (c ∷ cs) all w t e =
-    let h = both (p c.1) (list_all (λ (d : Command). p d.1) cs) all in
+    let h = and_parts (p c.1) (list_all (λ (d : Command). p d.1) cs) all in
     go (bytes_eq c.0 w) h.0 e (of_each p cs h.1 w t)
   where
     go : (b : Bool) → p c.1 ≡ true
@@ -48,12 +48,12 @@ module _ (w : Text) (t : List Opt) (is : options_of commands w ≡ Some t) (uses
     (rows : List Row) (h : HasRows t uses rows) where
   value : (n : Text) → is_never_flag n ≡ true → first_of n rows ≡ value_in n uses
   value n e = h.values n
-      (not_true (has_flag n t) (of_each (λ u. not (has_flag n u)) commands e w t is))
+      (not-true (has_flag n t) (of_each (λ u. not (has_flag n u)) commands e w t is))
 
   pub flag_row : (n : Text) → is_never_valued n ≡ true
       → FlagRow (is_used n uses) (one_of n rows)
   flag_row n e = h.flags n
-      (not_true (has_valued n t) (of_each (λ u. not (has_valued n u)) commands e w t is))
+      (not-true (has_valued n t) (of_each (λ u. not (has_valued n u)) commands e w t is))
 
   pub own_said : own_rows rows (is_used (codes "all-nodes") uses) (is_used (codes "show-all") uses)
       ≡ said_by uses

@@ -1,6 +1,7 @@
 -- The tables of the command line are read well. What has to hold of them is a test that computes.
 use Rattle.std.proofs.Common.{◌≡◌, ◌∙◌, ◌&&◌, ◌==◌, Bool, true, false, not, true≢false, refl, sym, codes, [], ◌∷◌, None, ℕ, List, eq-eqb}
 use Rattle.std.specs.List.{find, list_all, AllByRecursion}
+use Rattle.std.proofs.lemmas.Bool.{and_parts, not-true}
 use Rattle.clap.specs.Lexer.{has_byte}
 use Rattle.clap.specs.Walk.{answers_to}
 use Rattle.clap.specs.Simple.{is_simple}
@@ -15,13 +16,12 @@ use Rattle.med_words.specs.Matched.{has_flag}
 use Rattle.med_words.proofs.After.{IsClear}
 use Rattle.med_words.proofs.WholeLine.{names_in}
 use Rattle.med_words.proofs.FirstLook.{NamePasses}
-use Rattle.med_base.proofs.Bools.{both, not_true}
 
-each : {A : Type 0} (P : A → Type 0) (p : A → Bool) → ((x : A) → p x ≡ true → P x)
+each_passes : {A : Type 0} (P : A → Type 0) (p : A → Bool) → ((x : A) → p x ≡ true → P x)
     → (xs : List A) → list_all p xs ≡ true → AllByRecursion P xs
-each P p by [] e = tt
-each P p by (x ∷ xs) e =
-    let h = both (p x) (list_all p xs) e in (by x h.0, each P p by xs h.1)
+each_passes P p by [] e = tt
+each_passes P p by (x ∷ xs) e =
+    let h = and_parts (p x) (list_all p xs) e in (by x h.0, each_passes P p by xs h.1)
 
 -- ---- one table
 
@@ -34,14 +34,14 @@ has_good_name o = is_good_name (opt_name o)
 
 good_name : (n : Text) → is_good_name n ≡ true → IsGoodName n
 good_name [] e = absurd (true≢false (sym e))
-good_name (z ∷ zs) e = not_true (has_byte 61 (z ∷ zs)) e
+good_name (z ∷ zs) e = not-true (has_byte 61 (z ∷ zs)) e
 
 abbrev is_clear : List Opt → Opt → Bool
 is_clear table (valued n q) = not (has_flag n table)
 is_clear table (flag n) = true
 
 clear : (table : List Opt) (o : Opt) → is_clear table o ≡ true → IsClear table [] o
-clear table (valued n q) e = not_true (has_flag n table) e
+clear table (valued n q) e = not-true (has_flag n table) e
 clear table (flag n) e = tt
 
 abbrev is_table : List Opt → Bool
@@ -49,10 +49,10 @@ is_table table = list_all (is_clear table) table && list_all has_good_name table
 
 table_of : (table : List Opt) → is_table table ≡ true → IsTable table
 table_of table e =
-    let h = both (list_all (is_clear table) table) (list_all has_good_name table) e in record {
-      clear = each (IsClear table []) (is_clear table) (clear table) table h.0;
+    let h = and_parts (list_all (is_clear table) table) (list_all has_good_name table) e in record {
+      clear = each_passes (IsClear table []) (is_clear table) (clear table) table h.0;
       names = names_good table
-          (each HasGoodName has_good_name (λ o. good_name (opt_name o)) table h.1);
+          (each_passes HasGoodName has_good_name (λ o. good_name (opt_name o)) table h.1);
     }
 
 -- ---- the command words
@@ -64,12 +64,12 @@ is_word (x ∷ xs) = not (x == 45)
 word_passes : (w : Text) → is_word w ≡ true → Passes w
 word_passes [] e = absurd (true≢false (sym e))
 word_passes (x ∷ xs) e =
-    λ same. absurd (true≢false (sym (eq-eqb x 45 same) ∙ not_true (x == 45) e))
+    λ same. absurd (true≢false (sym (eq-eqb x 45 same) ∙ not-true (x == 45) e))
 
 pub plain_word : (w : Text) → is_word w ≡ true → IsPlain w
 plain_word [] e = absurd (true≢false (sym e))
 plain_word (x ∷ xs) e =
-    λ same. absurd (true≢false (sym (eq-eqb x 45 same) ∙ not_true (x == 45) e))
+    λ same. absurd (true≢false (sym (eq-eqb x 45 same) ∙ not-true (x == 45) e))
 
 -- ---- the tables
 
@@ -77,10 +77,10 @@ pub main_table : IsTable main_options
 main_table = table_of main_options refl
 
 pub all_tables : AllByRecursion IsEntry commands
-all_tables = each IsEntry (λ (c : Row). is_table c.1) (λ c. table_of c.1) commands refl
+all_tables = each_passes IsEntry (λ (c : Row). is_table c.1) (λ c. table_of c.1) commands refl
 
 pub all_names : AllByRecursion NamePasses commands
-all_names = each NamePasses (λ (c : Row). is_word c.0) (λ c. word_passes c.0) commands refl
+all_names = each_passes NamePasses (λ (c : Row). is_word c.0) (λ c. word_passes c.0) commands refl
 
 pub no_hyphen : (rest : List ℕ) → find (answers_to (45 ∷ rest)) (names_in commands) ≡ None
 no_hyphen rest = refl

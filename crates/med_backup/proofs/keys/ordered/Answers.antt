@@ -4,8 +4,7 @@ use Rattle.std.specs.BTreeMap.{insert_entry}
 use Rattle.med_base.specs.Key.{IsKey, key_cmp}
 use Rattle.med_outside.specs.Snapshot.{key_of_raw}
 use Rattle.med_backup.proofs.KeyLists.{nothing_yet, next_key}
-use Rattle.med_base.proofs.Lists.{get_map, all_push}
-use Rattle.med_backup.proofs.Lists.{take_map}
+use Rattle.med_base.proofs.Lists.{get_map, all_push, take_map}
 use Rattle.med_backup.proofs.keys.ordered.Goals as goal
 
 pub loop-at-init : goal.loop-at-init

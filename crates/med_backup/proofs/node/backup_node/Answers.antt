@@ -1,5 +1,6 @@
 use Rattle.std.proofs.Common.{[], inr, Vec, Global, arith}
-use Rattle.med_backup.proofs.NodeSteps.{ok_with, later_rose, left_later}
+use Rattle.std.proofs.lemmas.Result.{IfOk-weaker}
+use Rattle.med_backup.proofs.NodeSteps.{later_rose, left_later}
 use Rattle.med_manifest.specs.declared.manifest.FileRecord.{FileRecord}
 use Rattle.med_outside.specs.Ends.{seen}
 use Rattle.med_outside.specs.State.{ChangesWithin}
@@ -20,7 +21,7 @@ returns-in-Ok-clause-ok g c =
     rw (c.as_str-base.ensures.value, c.as_str-bucket.ensures.value) at c.in-Ok.ensures.ok in
     let held = snap_at (g.N.Nodes.state c.args.nodes.now).snaps (node_config_of c.args.config.now)
     c.args.name.now in
-    ok_with c.backup_opened.result
+    IfOk-weaker c.backup_opened.result
     (λ (files : Vec FileRecord Global). IsBackedUpFrom c.args.config.now.layout c.args.config.now.node
     c.args.name.now held (g.S.Storage.state c.open.new.self)
     (g.S.Storage.state c.backup_opened.new.store) (g.S.Storage.stood_since c.open.new.self)

@@ -1,10 +1,11 @@
 use Rattle.std.proofs.Common.{rules, ◌≡◌, ◌∙◌, false, List, map, sym, get_or, refl, arith}
 use Rattle.std.specs.List.{list_any}
+use Rattle.std.proofs.lemmas.List.{get_or_default}
 use Rattle.med_base.specs.Key.{key_eq}
 use Rattle.med_manifest.specs.declared.shape.NamedFile.{NamedFile}
 use Rattle.med_manifest.specs.Named.{named}
 use Rattle.med_manifest.specs.Refusals.{BlamesFiles}
-use Rattle.med_manifest.proofs.RecordLemmas.{none_distinct, nothing, item_is, keys_of, first_fault, seen_fault, records_next, seen_next}
+use Rattle.med_manifest.proofs.RecordLemmas.{none_distinct, nothing, keys_of, first_fault, seen_fault, records_next, seen_next}
 use Rattle.med_manifest.proofs.records.records_of.Goals as goal
 
 pub loop-at-init : goal.loop-at-init
@@ -20,7 +21,7 @@ returns-in_err-record-clause-err c =
     let blames : BlamesFiles c.args.layout.now c.args.node.now c.args.name.now
     (map named c.args.files.now) c.in_err-record.field-0.0 =
     first_fault c.args.layout.now c.args.node.now c.args.name.now files i (get_or files i nothing)
-    c.loop-at.records.items (omega arith) (item_is files i nothing (omega arith))
+    c.loop-at.records.items (omega arith) (get_or_default files i nothing _ (omega arith))
     c.loop-at.invariant.are c.in_err-record.field-0.0 c.in_err-record.ensures.err in
     search rules
 
@@ -31,7 +32,7 @@ returns-in_err-add-clause-err c =
     let blames : BlamesFiles c.args.layout.now c.args.node.now c.args.name.now
     (map named c.args.files.now) c.in_err-add.field-0.0 =
     seen_fault c.args.layout.now c.args.node.now c.args.name.now files i (get_or files i nothing)
-    c.loop-at.records.items (omega arith) (item_is files i nothing (omega arith))
+    c.loop-at.records.items (omega arith) (get_or_default files i nothing _ (omega arith))
     c.loop-at.invariant.are c.loop-at.seen c.in_ok-record.record c.in_err-add.field-0.0
     c.loop-at.invariant.seen c.in_ok-record.ensures.ok c.in_err-add.ensures.err in
     search rules
@@ -47,7 +48,8 @@ loop-at-preserved c =
       are =
           records_next c.args.layout.now c.args.node.now c.args.name.now files i
           (get_or files i nothing) c.loop-at.records.items (omega arith)
-          (item_is files i nothing (omega arith)) c.loop-at.invariant.are c.in_ok-record.record
+          (get_or_default files i nothing _ (omega arith)) c.loop-at.invariant.are
+          c.in_ok-record.record
           c.add.new.records.items c.in_ok-record.ensures.ok fresh c.in_ok-add.ensures.records;
       seen =
           seen_next c.loop-at.seen c.add.new.seen c.in_ok-record.record c.loop-at.records.items

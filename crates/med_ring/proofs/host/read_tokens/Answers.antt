@@ -1,10 +1,13 @@
-use Rattle.std.proofs.Common.{◌≡◌, ◌∙◌, ◌++◌, ◌∷◌, [], ℤ, ap, arith, rules, sym, to_z, of_z, w64, FitsSigned}
+use Rattle.std.proofs.Common.{◌≡◌, ◌∙◌, ◌++◌, ◌∷◌, [], ℤ, ap, arith, rules, sym, to_z, of_z, w64, FitsSigned, pos, negsuc}
 use Rattle.serde_json.specs.View.{view}
 use Rattle.med_ring.specs.Host.{IsInRange}
 use Rattle.med_ring.specs.Token.{IsToken}
 use Rattle.med_base.proofs.Lists.{zip_next, all_push}
-use Rattle.med_ring.proofs.Cuts.{in_range}
 use Rattle.med_ring.proofs.host.read_tokens.Goals as goal
+
+in_range : (t : ℤ) → FitsSigned w64 t → IsInRange t
+in_range (pos n) fits = fits.sfits
+in_range (negsuc n) fits = fits.sfits
 
 pub loop-value-preserved : goal.loop-value-preserved
 loop-value-preserved c =

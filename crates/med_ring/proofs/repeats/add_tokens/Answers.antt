@@ -1,9 +1,10 @@
 use Rattle.std.proofs.Common.{◌≡◌, ◌∙◌, ◌+◌, ap, sym, arith, rules, ℕ, ℤ, pos, true, List, take, drop, ◌++◌, ◌∷◌, append_assoc, to_z, of_z, w64, int_eq, slice_index_or}
 use Rattle.std.specs.HashSet.{contains}
 use Rattle.std.proofs.lemmas.Bool.Decides.{Decides-int_eq}
+use Rattle.std.proofs.lemmas.Bool.{not-false}
+use Rattle.std.proofs.lemmas.List.{get_or_default}
 use Rattle.indexmap.proofs.CallerLemmas.{Contains-list_any}
-use Rattle.med_base.proofs.Bools.{not_false}
-use Rattle.med_ring.proofs.Cuts.{cut_or}
+use Rattle.med_base.proofs.Lists.{split_at}
 use Rattle.med_ring.proofs.repeats.add_tokens.Goals as goal
 
 pub returns-then-not-is_new-clause-err : goal.returns-then-not-is_new-clause-err
@@ -17,9 +18,10 @@ returns-then-not-is_new-clause-err c =
     let old : List ℤ = c.args.seen.now.keys in
     let rest : List ℤ = drop (i + 1) tokens in
     let has : contains int_eq c.loop-token.seen v ≡ true =
-    not_false _ (sym c.in_ok-is_new.ensures.added ∙ c.if-not-is_new.true) in
+    not-false _ (sym c.in_ok-is_new.ensures.added ∙ c.if-not-is_new.true) in
     let whole : take i tokens ++ v ∷ rest ≡ tokens =
-    ap (λ (t : ℤ). take i tokens ++ t ∷ rest) same ∙ cut_or tokens i (pos 0) (omega arith) in
+    sym (split_at tokens i v (omega arith)
+    (same ∙ get_or_default tokens i (pos 0) v (omega arith))) in
     record {
       before = keys;
       rest = rest;
