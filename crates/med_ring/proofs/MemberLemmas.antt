@@ -45,32 +45,31 @@ one_more done e hosts h now zip is more =
     (zip_push IsHost (members_in (members_view done)) (map host_view hosts) (as_member e)
     (host_view h) zip is)
 
--- the first entry that is no host
+-- the first entry that is no host, with whatever fault
+first_at : (fault : List ℕ × Data → Type 0) (all done : List Entry) (e : Entry) (more : List Entry)
+    (hosts : List RingHost) (name : List ℕ) → all ≡ done ++ e ∷ more
+    → AllZip IsHost (members_in (members_view done)) hosts → name ≡ string_bytes e.0
+    → fault (as_member e) → IsFirstAtFault fault (members_in (members_view all)) name
+first_at fault all done e more hosts name cut zip name_is at_fault = record {
+  before = members_in (members_view done);
+  bad = as_member e;
+  rest = members_in (members_view more);
+  cut = ap (λ (es : List Entry). members_in (members_view es)) cut ∙ members_cut done e more;
+  hosts = hosts;
+  hosts_before = zip;
+  name_is = name_is;
+  at_fault = at_fault;
+}
+
 pub first_fault : (all done : List Entry) (e : Entry) (more : List Entry) (hosts : List RingHost)
     (err : RingError) → all ≡ done ++ e ∷ more
     → AllZip IsHost (members_in (members_view done)) hosts
     → BlamesHost (string_bytes e.0, view e.1) err
     → BlamesMembers (members_in (members_view all)) err
-first_fault all done e more hosts (Why (NotRing host)) cut zip blames = record {
-  before = members_in (members_view done);
-  bad = as_member e;
-  rest = members_in (members_view more);
-  cut = ap (λ (es : List Entry). members_in (members_view es)) cut ∙ members_cut done e more;
-  hosts = hosts;
-  hosts_before = zip;
-  name_is = blames.0;
-  at_fault = blames.1;
-}
-first_fault all done e more hosts (Why (TokenRange host)) cut zip blames = record {
-  before = members_in (members_view done);
-  bad = as_member e;
-  rest = members_in (members_view more);
-  cut = ap (λ (es : List Entry). members_in (members_view es)) cut ∙ members_cut done e more;
-  hosts = hosts;
-  hosts_before = zip;
-  name_is = blames.0;
-  at_fault = blames.1;
-}
+first_fault all done e more hosts (Why (NotRing host)) cut zip blames =
+    first_at IsMisshapen all done e more hosts (string_bytes host) cut zip blames.0 blames.1
+first_fault all done e more hosts (Why (TokenRange host)) cut zip blames =
+    first_at IsOutOfRange all done e more hosts (string_bytes host) cut zip blames.0 blames.1
 first_fault all done e more hosts (Why NotJson) cut zip blames = blames
 first_fault all done e more hosts (Why (TokenTwice token)) cut zip blames = blames
 first_fault all done e more hosts Memory cut zip blames = tt
