@@ -1,8 +1,9 @@
 -- What the walk keeps of the uses so far, and how it finds an option of the table.
-use Rattle.std.proofs.Common.{◌≡◌, ◌∙◌, ◌&&◌, ◌||◌, ℕ, Bool, cond, true, false, not, refl, ap, List, [], ◌∷◌, ◌++◌, map, Option, Some, None, codes, true≢false, append-nil}
+use Rattle.std.proofs.Common.{◌≡◌, ◌∙◌, ◌||◌, ℕ, Bool, cond, true, false, not, refl, ap, List, [], ◌∷◌, ◌++◌, map, Option, Some, None, codes, true≢false, append-nil}
 use Rattle.std.specs.List.{find}
 use Rattle.std.specs.Option.{option_map}
 use Rattle.std.specs.Str.{bytes_eq}
+use Rattle.std.proofs.Math.Bool.{or-false}
 use Rattle.clap.specs.Lexer.{has_byte}
 use Rattle.clap.specs.Walk.{Names, answers_to, Row, Rule, arg_by_id, arg_by_long, at_row, has_row, used, more_values}
 use Rattle.clap.specs.Values.{reading_of}
@@ -10,50 +11,39 @@ use Rattle.clap.specs.Simple.{Shape, filled_from}
 use Rattle.clap.specs.declared.builder.action.ArgAction.TheVariants.{Set, SetTrue}
 use Rattle.clap.specs.declared.builder.value_parser.ValueParser.TheVariants as vp
 use Rattle.clap.specs.declared.parser.matches.ValueSource.TheVariants.{CommandLine}
+use Rattle.clap.specs.declared.builder.action.ArgAction.{ArgAction}
 use Rattle.med_words.specs.Grammar.{Text, Opt, valued, flag, Use, alone, joined, apart, opt_of, is_used}
 use Rattle.med_words.specs.Built.{raw_rule, raw_shape}
 
-abbrev pub value_rule : Text → Bool → Rule
-value_rule n q = record {
+-- the rule of an option: what it does, how many values it takes, its default and what it holds
+-- where no value stands, how a value is read, and whether it has to stand
+abbrev option_rule : Text → ArgAction → ℕ → List Text → List Text → vp.the_data → Bool → Rule
+option_rule n action count defaults missing parser q = record {
   id = n;
   long = Some n;
   aliases = [];
   short = None;
   short_aliases = [];
   index = None;
-  action = Some Set;
-  range = Some (record { start_inclusive = 1; end_inclusive = 1 });
+  action = Some action;
+  range = Some (record { start_inclusive = count; end_inclusive = count });
   value_names = 0;
-  defaults = [];
-  missing = [];
+  defaults = defaults;
+  missing = missing;
   trailing_var_arg = false;
-  parser = Some vp.String;
+  parser = Some parser;
   ignore_case = false;
   required = q;
   is_simple = true;
   is_free = true;
 }
 
+abbrev pub value_rule : Text → Bool → Rule
+value_rule n q = option_rule n Set 1 [] [] vp.String q
+
 abbrev pub flag_rule : Text → Rule
-flag_rule n = record {
-  id = n;
-  long = Some n;
-  aliases = [];
-  short = None;
-  short_aliases = [];
-  index = None;
-  action = Some SetTrue;
-  range = Some (record { start_inclusive = 0; end_inclusive = 0 });
-  value_names = 0;
-  defaults = codes "false" ∷ [];
-  missing = codes "true" ∷ [];
-  trailing_var_arg = false;
-  parser = Some vp.Bool;
-  ignore_case = false;
-  required = false;
-  is_simple = true;
-  is_free = true;
-}
+flag_rule n =
+    option_rule n SetTrue 0 (codes "false" ∷ []) (codes "true" ∷ []) vp.Bool false
 
 abbrev pub rule_for : Opt → Rule
 rule_for (valued n q) = value_rule n q
@@ -84,41 +74,27 @@ leaf l rs = record (raw_shape l.name [])
 abbrev pub named : List Opt → Text → Option Opt
 named = opt_of
 
+-- a rule is found where its option is, if the test of the rule answers as that of the option
+rule_found : (o : Opt) (b c : Bool) → c ≡ b → (r : Option Rule) (x : Option Opt)
+    → r ≡ option_map rule_for x
+    → cond c (Some (rule_for o)) r ≡ option_map rule_for (cond b (Some o) x)
+rule_found o true c same r x e = ap (λ d. cond d (Some (rule_for o)) r) same
+rule_found o false c same r x e = ap (λ d. cond d (Some (rule_for o)) r) same ∙ e
+
 pub by_long : (table : List Opt) (n : Text)
     → arg_by_long (rules table) n ≡ option_map rule_for (named table n)
 by_long [] n = refl
-by_long (valued m q ∷ rest) n = go (bytes_eq m n) (by_long rest n)
-  where
-    go : (b : Bool) → arg_by_long (rules rest) n ≡ option_map rule_for (named rest n)
-        → cond (not false && (b || false)) (Some (value_rule m q)) (arg_by_long (rules rest) n)
-        ≡ option_map rule_for (cond b (Some (valued m q)) (named rest n))
-    go true h = refl
-    go false h = h
-by_long (flag m ∷ rest) n = go (bytes_eq m n) (by_long rest n)
-  where
-    go : (b : Bool) → arg_by_long (rules rest) n ≡ option_map rule_for (named rest n)
-        → cond (not false && (b || false)) (Some (flag_rule m)) (arg_by_long (rules rest) n)
-        ≡ option_map rule_for (cond b (Some (flag m)) (named rest n))
-    go true h = refl
-    go false h = h
+by_long (valued m q ∷ rest) n =
+    rule_found (valued m q) (bytes_eq m n) _ (or-false (bytes_eq m n)) _ _ (by_long rest n)
+by_long (flag m ∷ rest) n =
+    rule_found (flag m) (bytes_eq m n) _ (or-false (bytes_eq m n)) _ _ (by_long rest n)
 
 pub by_id : (table : List Opt) (n : Text)
     → arg_by_id (rules table) n ≡ option_map rule_for (named table n)
 by_id [] n = refl
-by_id (valued m q ∷ rest) n = go (bytes_eq m n) (by_id rest n)
-  where
-    go : (b : Bool) → arg_by_id (rules rest) n ≡ option_map rule_for (named rest n)
-        → cond b (Some (value_rule m q)) (arg_by_id (rules rest) n)
-        ≡ option_map rule_for (cond b (Some (valued m q)) (named rest n))
-    go true h = refl
-    go false h = h
-by_id (flag m ∷ rest) n = go (bytes_eq m n) (by_id rest n)
-  where
-    go : (b : Bool) → arg_by_id (rules rest) n ≡ option_map rule_for (named rest n)
-        → cond b (Some (flag_rule m)) (arg_by_id (rules rest) n)
-        ≡ option_map rule_for (cond b (Some (flag m)) (named rest n))
-    go true h = refl
-    go false h = h
+by_id (valued m q ∷ rest) n =
+    rule_found (valued m q) (bytes_eq m n) _ (refl) _ _ (by_id rest n)
+by_id (flag m ∷ rest) n = rule_found (flag m) (bytes_eq m n) _ (refl) _ _ (by_id rest n)
 
 -- ---- rows
 
