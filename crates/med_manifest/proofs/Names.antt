@@ -184,16 +184,16 @@ each_record before f n (r ∷ rs) keys places digests =
     (is, each_record before f n rs keys.1 places.1 digests.1)
 
 -- a key that is below others is none of them
-apart : (k : FileKey) (ks : List FileKey) → AllByRecursion (λ j. key_cmp k j ≡ Less) ks
+unequal_to_later : (k : FileKey) (ks : List FileKey) → AllByRecursion (λ j. key_cmp k j ≡ Less) ks
     → AllByRecursion (λ j. key_eq k j ≡ false) ks
-apart k [] all = tt
-apart k (j ∷ ks) all = (rw all.0 refl, apart k ks all.1)
+unequal_to_later k [] all = tt
+unequal_to_later k (j ∷ ks) all = (rw all.0 refl, unequal_to_later k ks all.1)
 
 -- rising keys are distinct
 pub distinct : (ks : List FileKey) → AreRising ks → IsDistinct key_eq ks
 unfolding IsDistinct
 distinct [] rise = tt
-distinct (k ∷ ks) rise = (apart k ks rise.0, distinct ks rise.1)
+distinct (k ∷ ks) rise = (unequal_to_later k ks rise.0, distinct ks rise.1)
 
 -- a text that reads as the tree of these files is a manifest with them
 pub is_manifest : (before f n text : List ℕ) (files : List FileRecord) → IsUtf8 text

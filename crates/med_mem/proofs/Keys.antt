@@ -14,9 +14,9 @@ use Rattle.med_mem.specs.declared.snapshot.MemFile.{MemFile}
 use Rattle.med_mem.specs.Distinct.{without, distinct}
 use Rattle.med_mem.specs.Snaps.{files_of, order_of}
 
-either : {K : Type 0} (among : Bool) → cond {A = List K} among [] [] ≡ []
-either true = refl
-either false = refl
+none_either_way : {K : Type 0} (among : Bool) → cond {A = List K} among [] [] ≡ []
+none_either_way true = refl
+none_either_way false = refl
 
 -- what is new of one element more, whether it is among those before or not
 abbrev new_one : {K : Type 0} → (among : Bool) → K → List K
@@ -24,7 +24,8 @@ new_one among x = cond among [] (x ∷ [])
 
 last : {K : Type 0} (among before test : Bool) (x : K) → before ≡ test
     → cond among [] (cond (not before) (x ∷ []) []) ≡ new_one (test || among) x
-last among before true x e = ap (λ b. cond among [] (cond (not b) (x ∷ []) [])) e ∙ either among
+last among before true x e = ap (λ b. cond among [] (cond (not b) (x ∷ []) [])) e
+    ∙ none_either_way among
 last among before false x e = ap (λ b. cond among [] (cond (not b) (x ∷ []) [])) e
 
 module _ {K : Type 0} (E : K → K → Bool) (laws : IsEquivalence E) where

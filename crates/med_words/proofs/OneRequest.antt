@@ -69,43 +69,43 @@ action_in word said =
     option_and_then (λ (m : Text × Maker). m.1 said)
     (find (λ (m : Text × Maker). bytes_eq m.0 word) makers)
 
-made : (said : Said) (a : Action) → HasValues said a → action_in (word_of a) said ≡ Some a
-made said (backup name mode) h =
+action_made : (said : Said) (a : Action) → HasValues said a → action_in (word_of a) said ≡ Some a
+action_made said (backup name mode) h =
     ap (option_and_then (λ n. by_mode n said)) h.0 ∙ ap (option_map (backup name)) h.1
-made said (backup_cluster name mode workers) h =
+action_made said (backup_cluster name mode workers) h =
     ap (option_and_then (λ n. by_both n said)) h.0
     ∙ ap (option_and_then (λ m. by_workers name m said)) h.1
     ∙ ap (option_map (backup_cluster name mode)) h.2
-made said build_index h = refl
-made said (delete_backup name all_nodes) h =
+action_made said build_index h = refl
+action_made said (delete_backup name all_nodes) h =
     ap (option_map (λ n. delete_backup n said.all_nodes)) h.0
     ∙ ap (λ b. Some (delete_backup name b)) h.1
-made said (download name destination) h =
+action_made said (download name destination) h =
     ap (option_and_then (λ n. option_map (download n) said.destination)) h.0
     ∙ ap (option_map (download name)) h.1
-made said (fetch_tokenmap name) h = ap (option_map fetch_tokenmap) h
-made said last_complete h = refl
-made said (list_backups show_all) h = ap (λ b. Some (list_backups b)) h
-made said purge h = refl
-made said purge_decommissioned h = refl
-made said report_last h = refl
-made said (restore_cluster name host_list) h =
+action_made said (fetch_tokenmap name) h = ap (option_map fetch_tokenmap) h
+action_made said last_complete h = refl
+action_made said (list_backups show_all) h = ap (λ b. Some (list_backups b)) h
+action_made said purge h = refl
+action_made said purge_decommissioned h = refl
+action_made said report_last h = refl
+action_made said (restore_cluster name host_list) h =
     ap (option_and_then (λ n. option_map (restore_cluster n) said.host_list)) h.0
     ∙ ap (option_map (restore_cluster name)) h.1
-made said (restore_node name) h = ap (option_map restore_node) h
-made said (status name) h = ap (option_map status) h
-made said (verify name) h = ap (option_map verify) h
-made said (jobs file) h = ap (option_map jobs) h
-made said (rehearse rounds) h = ap (option_map rehearse) h
+action_made said (restore_node name) h = ap (option_map restore_node) h
+action_made said (status name) h = ap (option_map status) h
+action_made said (verify name) h = ap (option_map verify) h
+action_made said (jobs file) h = ap (option_map jobs) h
+action_made said (rehearse rounds) h = ap (option_map rehearse) h
 
-found : (word : Text) (said : Said) (a : Action) → IsAction word said a
+action_found : (word : Text) (said : Said) (a : Action) → IsAction word said a
     → action_in word said ≡ Some a
-found word said a is = ap (λ w. action_in w said) is.word_is ∙ made said a is.values
+action_found word said a is = ap (λ w. action_in w said) is.word_is ∙ action_made said a is.values
 
 one_action : (word : Text) (said : Said) (a b : Action) → IsAction word said a
     → IsAction word said b → a ≡ b
 one_action word said a b k l =
-    cc (sym (found word said a k) ∙ found word said b l)
+    cc (sym (action_found word said a k) ∙ action_found word said b l)
 
 same_asked : (f g : Text) (b c p q n m : Option Text) (x y : Action) → f ≡ g → b ≡ c → p ≡ q
     → n ≡ m → x ≡ y

@@ -12,15 +12,15 @@ use Rattle.med_words.specs.Tables.{main_options, commands}
 use Rattle.med_words.proofs.SaidLemmas.{main_said, own_said, flag_row}
 use Rattle.med_words.proofs.line.line_of.Goals as goal
 
-twice : {X Y Z : Type 0} (f : X → Y) (g : Y → Z) (o : Option X)
+map_of_map : {X Y Z : Type 0} (f : X → Y) (g : Y → Z) (o : Option X)
     → option_map (λ x. g (f x)) o ≡ option_map g (option_map f o)
-twice f g None = refl
-twice f g (Some x) = refl
+map_of_map f g None = refl
+map_of_map f g (Some x) = refl
 
 -- the name of a subcommand stands in its rows
 name_in_rows : (m : ArgMatches)
     → subcommand_name_of m ≡ option_map (λ (p : Text × List Row). p.0) (subcommand_rows_of m)
-name_in_rows m = twice _ (λ (p : Text × List Row). p.0) (out-ArgMatches m).subcommand
+name_in_rows m = map_of_map _ (λ (p : Text × List Row). p.0) (out-ArgMatches m).subcommand
 
 pub returns : goal.returns
 returns c words m =

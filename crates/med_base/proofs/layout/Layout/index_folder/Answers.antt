@@ -2,10 +2,10 @@ use Rattle.std.proofs.Common.{◌∙◌, ◌≡◌, ◌++◌, List, ℕ, ap₂, 
 use Rattle.med_base.specs.Layout.{index_folder}
 use Rattle.med_base.proofs.layout.Layout.index_folder.Goals as goal
 
-flat : (before n : List ℕ) → before ++
+index_folder_flat : (before n : List ℕ) → before ++
     (codes "index/backup_index/" ++ (n ++ codes "/")) ≡ index_folder before n
-flat before n = simp append_assoc
+index_folder_flat before n = simp append_assoc
 
 pub returns : goal.returns
-returns c = c.in_ok-format.ensures.ok ∙ flat _ _
+returns c = c.in_ok-format.ensures.ok ∙ index_folder_flat _ _
     ∙ ap₂ index_folder c.before-before.ensures c.as_str-n.ensures.value
