@@ -1,31 +1,26 @@
 -- What all puts of a backup made, and what the manifest asks of the records.
-use Rattle.std.proofs.Common.{◌≡◌, ◌||◌, inl, inr, ℕ, Bool, true, false, List, [], ◌∷◌, ◌++◌, map, Option, Some, None, IfSome, refl, sym, ap, ◌∙◌, subst, append_assoc, append-nil}
-use Rattle.std.specs.Prelude.{is_some, unwrap_or, IsTrue}
+use Rattle.std.proofs.Common.{◌≡◌, ◌||◌, inr, ℕ, Bool, true, false, List, [], ◌∷◌, ◌++◌, map, Option, Some, None, IfSome, refl, sym, ap, ◌∙◌, subst}
+use Rattle.std.specs.Prelude.{IsTrue}
 use Rattle.std.specs.List.{AllByRecursion, list_any}
 use Rattle.std.specs.Ordering.{is_eq}
 use Rattle.std.specs.Cmp.{tied_itself}
-use Rattle.std.specs.FinMap.{FinMap, get, keys, contains_key, contains_key-keys}
+use Rattle.std.specs.FinMap.{FinMap, keys, contains_key, contains_key-keys}
 use Rattle.med_base.specs.declared.key.FileKey.{FileKey}
 use Rattle.med_base.specs.declared.layout.MetaKind.TheVariants.{Schema, Manifest}
-use Rattle.med_base.specs.Content.{Content}
 use Rattle.med_base.specs.Key.{key_cmp, key_eq, IsKey}
 use Rattle.med_base.specs.KeyOrder.{key_total}
 use Rattle.med_base.specs.Layout.{meta_path}
 use Rattle.med_manifest.specs.declared.manifest.FileRecord.{FileRecord}
 use Rattle.med_manifest.specs.Manifest.{IsManifest, IsPathOf}
 use Rattle.med_manifest.specs.Written.{manifest_text}
-use Rattle.med_outside.specs.Effects.{Effect, Stores}
+use Rattle.med_outside.specs.Effects.{Stores}
 use Rattle.med_outside.specs.Snapshot.{Snapshot, HasKey}
 use Rattle.med_outside.specs.State.{State, ChangesWithin, History}
 use Rattle.med_outside.proofs.Passing.{moves_on}
 use Rattle.med_backup.specs.BackedUp.{CanBeCopied, IsCopied}
-use Rattle.med_backup.specs.Copies.{Copy, key_of, put_of, records_of, backup_puts, AreOf}
+use Rattle.med_backup.specs.Copies.{Copy, key_of, put_of, records_of, backup_puts}
 use Rattle.med_backup.specs.Placing.{PlacesAll}
-use Rattle.med_backup.specs.Taken.{IsFree}
-use Rattle.std.proofs.lemmas.List.{map-append}
-use Rattle.med_base.proofs.Lists.{all_split}
 use Rattle.med_backup.proofs.Lists.{all_with, all_unmap}
-use Rattle.med_backup.proofs.Placed.{none_of, of_both}
 
 pub told_with : {A : Type 0} (held : Option A) (P Q : A → Type 0) → ((s : A) → P s → Q s)
     → IfSome held P → IfSome held Q

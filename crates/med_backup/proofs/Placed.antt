@@ -4,7 +4,6 @@ use Rattle.std.specs.List.{AllByRecursion}
 use Rattle.std.specs.FinMap.{get}
 use Rattle.med_base.specs.declared.key.FileKey.{FileKey}
 use Rattle.med_base.specs.declared.fingerprint.Fingerprint.{Fingerprint}
-use Rattle.med_base.specs.Content.{Content}
 use Rattle.med_base.specs.Fingerprint.{fingerprint_of}
 use Rattle.med_base.specs.Layout.{own_path}
 use Rattle.med_manifest.specs.declared.manifest.FileRecord.{FileRecord}
