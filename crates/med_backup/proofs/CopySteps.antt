@@ -1,8 +1,7 @@
 -- How copying ends, step by step.
-use Rattle.std.proofs.Common.{◌≡◌, ◌⊎◌, inl, inr, ℕ, List, [], ◌∷◌, ◌++◌, map, Option, Result, Ok, Err, refl, sym, ap, ◌∙◌, subst, append-nil, ◌≤◌, arith}
+use Rattle.std.proofs.Common.{◌≡◌, ◌⊎◌, inl, inr, ℕ, List, [], ◌∷◌, ◌++◌, map, Option, Ok, Err, refl, sym, ap, ◌∙◌, subst, append-nil, ◌≤◌, arith}
 use Rattle.med_base.specs.declared.key.FileKey.{FileKey}
 use Rattle.med_base.specs.declared.layout.MetaKind.TheVariants.{Schema, Manifest}
-use Rattle.med_base.specs.Content.{Content}
 use Rattle.med_base.specs.Layout.{meta_path}
 use Rattle.med_manifest.specs.declared.manifest.FileRecord.{FileRecord}
 use Rattle.med_manifest.specs.Written.{manifest_text}
@@ -11,12 +10,12 @@ use Rattle.med_outside.specs.Ends.{Device, Stop, StopsAt, Ends}
 use Rattle.med_outside.specs.Snapshot.{Snapshot}
 use Rattle.med_outside.specs.State.{State, ChangesWithin, History}
 use Rattle.med_outside.proofs.Passing.{moves_on}
-use Rattle.med_backup.specs.Copies.{Copy, key_of, put_of, records_of, AreOf, backup_puts}
+use Rattle.med_backup.specs.Copies.{put_of, backup_puts}
 use Rattle.med_outside.specs.World.{rose_of_node}
 use Rattle.med_backup.specs.Placing.{IsCaused, PlacesAll, PlacesSome, MayStore}
 use Rattle.med_backup.specs.declared.place.CopyFault.{CopyFault}
 use Rattle.med_backup.specs.declared.place.CopyFault.TheVariants.{Snap, Store, Memory}
-use Rattle.med_backup.specs.Plan.{on_storage, on_both, Passed, Copies, IsCopyOf, ChangeLists, IsNothing, IsSchemaPut, IsBegun, HasFiles, HasAll, copy_plan, IsMadeBy, stop_of_fault}
+use Rattle.med_backup.specs.Plan.{on_storage, on_both, Passed, Copies, IsCopyOf, IsNothing, IsSchemaPut, IsBegun, HasFiles, HasAll, copy_plan, IsMadeBy, stop_of_fault}
 use Rattle.med_backup.proofs.Copied.{all_passed}
 
 module _ (before f n : List ℕ) (held : Option Snapshot) (order : List FileKey) (schema : List ℕ)

@@ -1,6 +1,7 @@
 pub mod Apart
 pub mod Copied
 pub mod CopySteps
+pub mod Denials
 pub mod Finished
 pub mod KeyLists
 pub mod LookSteps

@@ -1,5 +1,5 @@
 -- How a look at the bucket ends.
-use Rattle.std.proofs.Common.{◌≡◌, ℕ, List, [], ◌∷◌, Option, Some, None, IfSome, refl, sym}
+use Rattle.std.proofs.Common.{◌≡◌, ℕ, List, [], ◌∷◌, Option, Some, None, IfSome, refl}
 use Rattle.med_base.specs.Content.{Content, Object, objects_under}
 use Rattle.med_backup.specs.Taken.{IsFirstUnder, first_path}
 

@@ -1,7 +1,7 @@
 -- The puts of a full backup, in order, as data.
 use Rattle.std.specs.Prelude.{◌≡◌, ℕ, List, [], ◌∷◌, ◌++◌, map, Option, Some, IfSome}
 use Rattle.std.specs.List.{AllByRecursion}
-use Rattle.std.specs.FinMap.{get, keys}
+use Rattle.std.specs.FinMap.{get}
 use Rattle.med_base.specs.declared.key.FileKey.{FileKey}
 use Rattle.med_base.specs.declared.layout.MetaKind.TheVariants.{Schema, Manifest}
 use Rattle.med_base.specs.Fingerprint.{fingerprint_of}

@@ -1,15 +1,26 @@
 -- What placing files of a snapshot leaves.
 use Rattle.std.specs.Prelude.{◌≡◌, ◌⊎◌, ℕ, List, [], ◌∷◌, ◌++◌, map, Option}
 use Rattle.med_base.specs.declared.key.FileKey.{FileKey}
-use Rattle.med_base.specs.Content.{Content}
 use Rattle.med_manifest.specs.declared.manifest.FileRecord.{FileRecord}
 use Rattle.med_outside.specs.Causes.{RoseOrFull}
+use Rattle.med_outside.specs.declared.denied.Denied.{Denied}
+use Rattle.med_outside.specs.declared.denied.Denied.TheVariants as denied
 use Rattle.med_outside.specs.Effects.{Stores}
 use Rattle.med_outside.specs.Snapshot.{Snapshot}
 use Rattle.med_outside.specs.State.{State, ChangesWithin, History}
 use Rattle.med_backup.specs.Copies.{Copy, key_of, put_of, records_of, AreOf}
 use Rattle.med_backup.specs.declared.place.CopyFault.{CopyFault}
 use Rattle.med_backup.specs.declared.place.CopyFault.TheVariants.{Snap, Store, Memory}
+
+-- the fault where the storage denies a call
+abbrev pub store_fault : Denied → CopyFault
+store_fault denied.Failed = Store
+store_fault denied.Memory = Memory
+
+-- the fault where the nodes or a snapshot deny a call
+abbrev pub snap_fault : Denied → CopyFault
+snap_fault denied.Failed = Snap
+snap_fault denied.Memory = Memory
 
 -- a fault comes only where its count rose; want of memory is free
 abbrev pub IsCaused : (read_before read_now store_before store_now : ℕ) → CopyFault → Type 0

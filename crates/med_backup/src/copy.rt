@@ -6,10 +6,10 @@ ghost use Rattle.med_backup.specs.BackedUp.{IsFound, IsCopied};
 ghost use Rattle.med_backup.specs.Plan.{IsMadeBy, copy_plan, stop_of_fault};
 
 use crate::look::Found;
-use crate::place::{CopyFault, place_all, put_meta};
-use med_base::{BackupName, Fqdn, Layout, MetaKind, NoMemory};
+use crate::place::{CopyFault, of_store, place_all, put_meta};
+use med_base::{BackupName, Fqdn, Layout, MetaKind};
 use med_manifest::{FileRecord, Manifest};
-use med_outside::{Denied, Snap, Storage};
+use med_outside::{Snap, Storage};
 use std::alloc::Global;
 
 /// Makes the puts of a backup, the manifest last, and answers what the manifest records.
@@ -38,39 +38,12 @@ pub(crate) fn copy_found<S: Storage, P: Snap>(
     ensures store_later { (S.state store.old).faults ≤ (S.state store.new).faults }
 {
     let schema = found.schema.as_slice();
-    match put_meta(alloc, store, layout, node, name, MetaKind::Schema, schema) {
-        Ok(()) => {}
-        Err(Denied::Failed) => return Err(CopyFault::Store),
-        Err(Denied::Memory) => return Err(CopyFault::Memory),
-    }
-    let files = match place_all(
-        alloc,
-        store,
-        snap,
-        layout,
-        node,
-        name,
-        found.keys.as_slice(),
-    ) {
-        Ok(files) => files,
-        Err(fault) => return Err(fault),
-    };
+    put_meta(alloc, store, layout, node, name, MetaKind::Schema, schema).map_err(of_store)?;
+    let keys = found.keys.as_slice();
+    let files = place_all(alloc, store, snap, layout, node, name, keys)?;
     let manifest = Manifest { files };
-    let text = match manifest.write(alloc) {
-        Ok(text) => text,
-        Err(NoMemory) => return Err(CopyFault::Memory),
-    };
-    match put_meta(
-        alloc,
-        store,
-        layout,
-        node,
-        name,
-        MetaKind::Manifest,
-        text.as_slice(),
-    ) {
-        Ok(()) => Ok(manifest.files),
-        Err(Denied::Failed) => Err(CopyFault::Store),
-        Err(Denied::Memory) => Err(CopyFault::Memory),
-    }
+    let text = manifest.write(alloc)?;
+    let bytes = text.as_slice();
+    put_meta(alloc, store, layout, node, name, MetaKind::Manifest, bytes).map_err(of_store)?;
+    Ok(manifest.files)
 }

@@ -110,10 +110,7 @@ pub fn walk<P: Snap>(alloc: Global, snap: &mut P) -> Result<Vec<FileKey>, WalkEr
     if raws.as_slice().is_empty() {
         return Err(WalkError::NoSnapshot);
     }
-    let keys = match ordered(alloc, raws.as_slice()) {
-        Ok(keys) => keys,
-        Err(error) => return Err(error),
-    };
+    let keys = ordered(alloc, raws.as_slice())?;
     match key_list(alloc, keys) {
         Ok(keys) => Ok(keys),
         Err(AllocError) => Err(WalkError::Memory),

@@ -5,13 +5,14 @@ ghost use Rattle.med_outside.specs.Causes.{HasCause};
 ghost use Rattle.med_outside.specs.State.{OnlyReads};
 ghost use Rattle.med_outside.specs.Ends.{Ends, seen};
 ghost use Rattle.med_outside.specs.World.{rose_of_node};
+ghost use Rattle.med_backup.specs.declared.look.BackupError.TheVariants.{Fault};
 ghost use Rattle.med_backup.specs.BackedUp.{IsFound};
 ghost use Rattle.med_backup.specs.Plan.{IsMadeBy, look_plan, found_of, stop_of};
 ghost use Rattle.med_backup.specs.Taken.{first_entry, IsFirstUnder};
 
 use crate::keys::{WalkError, walk};
-use crate::place::CopyFault;
-use med_base::{BackupName, FileKey, Fqdn, Layout, NoMemory, ObjPath};
+use crate::place::{CopyFault, of_snap, of_store};
+use med_base::{BackupName, FileKey, Fqdn, Layout, ObjPath};
 use med_outside::{Denied, Entry, Snap, Storage};
 use std::alloc::Global;
 
@@ -22,6 +23,14 @@ pub enum BackupError {
     BadFileName { at: usize },
     Taken { path: ObjPath },
     Fault(CopyFault),
+}
+
+impl From<CopyFault> for BackupError {
+    ghost from_gives = { λ fault error. error ≡ Fault fault };
+
+    fn from(fault: CopyFault) -> Self {
+        BackupError::Fault(fault)
+    }
 }
 
 /// What a backup copies: the keys of the files in order, and the schema.
@@ -55,14 +64,9 @@ fn first_under<S: Storage>(
         (S.stood_since store.new) }
     ensures cause { HasCause (S.state store.old).faults (S.state store.new).faults result }
 {
-    let folder = match layout.backup_folder(alloc, node, name) {
-        Ok(folder) => folder,
-        Err(NoMemory) => return Err(Denied::Memory),
-    };
-    match store.list(alloc, folder.as_str()) {
-        Ok(entries) => Ok(first_path_of(entries)),
-        Err(denied) => Err(denied),
-    }
+    let folder = layout.backup_folder(alloc, node, name)?;
+    let entries = store.list(alloc, folder.as_str())?;
+    Ok(first_path_of(entries))
 }
 
 /// The keys and the schema of the snapshot, where its keys are names of files and the name of the
@@ -97,15 +101,9 @@ pub(crate) fn look<S: Storage, P: Snap>(
         Err(WalkError::Snap) => return Err(BackupError::Fault(CopyFault::Snap)),
         Err(WalkError::Memory) => return Err(BackupError::Fault(CopyFault::Memory)),
     };
-    let schema = match snap.schema(alloc) {
-        Ok(schema) => schema,
-        Err(Denied::Failed) => return Err(BackupError::Fault(CopyFault::Snap)),
-        Err(Denied::Memory) => return Err(BackupError::Fault(CopyFault::Memory)),
-    };
-    match first_under(alloc, store, layout, node, name) {
-        Ok(None) => Ok(Found { keys, schema }),
-        Ok(Some(path)) => Err(BackupError::Taken { path }),
-        Err(Denied::Failed) => Err(BackupError::Fault(CopyFault::Store)),
-        Err(Denied::Memory) => Err(BackupError::Fault(CopyFault::Memory)),
+    let schema = snap.schema(alloc).map_err(of_snap)?;
+    match first_under(alloc, store, layout, node, name).map_err(of_store)? {
+        None => Ok(Found { keys, schema }),
+        Some(path) => Err(BackupError::Taken { path }),
     }
 }

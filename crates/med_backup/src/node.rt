@@ -9,11 +9,11 @@ ghost use Rattle.med_backup.specs.NodeConfig.{node_config_of, opened_at, snap_at
 
 use crate::copy::copy_found;
 use crate::look::{BackupError, look};
-use crate::place::CopyFault;
+use crate::place::{CopyFault, of_snap, of_store};
 use med_base::{BackupName, Fqdn, Layout};
 use med_ini::Config;
 use med_manifest::FileRecord;
-use med_outside::{Denied, Nodes, Snap, Storage};
+use med_outside::{Nodes, Snap, Storage};
 use std::alloc::Global;
 
 // Backs up the snapshot, where nothing stands against it.
@@ -37,14 +37,9 @@ fn backup_snapshot<S: Storage, P: Snap>(
     ensures snap_later { P.faults snap.old ≤ P.faults snap.new }
     ensures store_later { (S.state store.old).faults ≤ (S.state store.new).faults }
 {
-    let found = match look(alloc, store, snap, layout, node, name) {
-        Ok(found) => found,
-        Err(refusal) => return Err(refusal),
-    };
-    match copy_found(alloc, store, snap, layout, node, name, &found) {
-        Ok(files) => Ok(files),
-        Err(fault) => Err(BackupError::Fault(fault)),
-    }
+    let found = look(alloc, store, snap, layout, node, name)?;
+    let files = copy_found(alloc, store, snap, layout, node, name, &found)?;
+    Ok(files)
 }
 
 // Opens the node's snapshot for the backup, backs it up, and closes it whatever the answer is.
@@ -76,11 +71,8 @@ fn backup_opened<S: Storage, N: Nodes>(
         Err(_) => return Err(BackupError::Fault(CopyFault::Memory)),
     };
     let root = config.nodes_root.as_str();
-    let mut snap = match nodes.open(alloc, root, &config.node, tag.as_str()) {
-        Ok(snap) => snap,
-        Err(Denied::Failed) => return Err(BackupError::Fault(CopyFault::Snap)),
-        Err(Denied::Memory) => return Err(BackupError::Fault(CopyFault::Memory)),
-    };
+    let opened = nodes.open(alloc, root, &config.node, tag.as_str());
+    let mut snap = opened.map_err(of_snap)?;
     let layout = &config.layout;
     let answer = backup_snapshot(alloc, store, &mut snap, layout, &config.node, name);
     nodes.close(snap);
@@ -114,9 +106,7 @@ pub fn backup_node<S: Storage, N: Nodes>(
     ensures store_later { (S.state store.old).faults ≤ (S.state store.new).faults }
 {
     let (base, bucket) = (config.base.as_str(), config.bucket.as_str());
-    match store.open(alloc, base, bucket, &config.layout) {
-        Ok(()) => backup_opened(alloc, store, nodes, config, name),
-        Err(Denied::Failed) => Err(BackupError::Fault(CopyFault::Store)),
-        Err(Denied::Memory) => Err(BackupError::Fault(CopyFault::Memory)),
-    }
+    let opened = store.open(alloc, base, bucket, &config.layout);
+    opened.map_err(of_store)?;
+    backup_opened(alloc, store, nodes, config, name)
 }

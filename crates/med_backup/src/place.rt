@@ -4,12 +4,13 @@ ghost use Rattle.std.specs.List.{AllByRecursion};
 ghost use Rattle.med_base.specs.Layout.{meta_path};
 ghost use Rattle.med_outside.specs.Causes.{HasCause};
 ghost use Rattle.med_outside.specs.Snapshot.{HasKey};
-ghost use Rattle.med_backup.specs.Placing.{IsCaused, PlacesOne, PlacesAll, PlacesSome, StoresOne, MayStore};
+ghost use Rattle.med_backup.specs.declared.place.CopyFault.TheVariants.{Memory};
+ghost use Rattle.med_backup.specs.Placing.{store_fault, snap_fault, IsCaused, PlacesOne, PlacesAll, PlacesSome, StoresOne, MayStore};
 
 use med_base::{BackupName, FileKey, Fingerprint, Fqdn, Layout, MetaKind, NoMemory};
 use med_manifest::FileRecord;
 use med_outside::{Denied, Snap, Storage};
-use std::alloc::Global;
+use std::alloc::{AllocFailed, Global};
 
 /// Why copying broke off.
 #[derive(Clone, Copy, Debug, PartialEq, Eq)]
@@ -19,6 +20,42 @@ pub enum CopyFault {
     /// The storage's count of faults rose.
     Store,
     Memory,
+}
+
+impl From<NoMemory> for CopyFault {
+    ghost from_gives = { λ _ e. e ≡ Memory };
+
+    fn from(_: NoMemory) -> Self {
+        CopyFault::Memory
+    }
+}
+
+impl<T: Drop> From<AllocFailed<T>> for CopyFault {
+    ghost from_gives = { λ _ e. e ≡ Memory };
+
+    fn from(_: AllocFailed<T>) -> Self {
+        CopyFault::Memory
+    }
+}
+
+/// The fault where a call of the storage is denied.
+pub(crate) fn of_store(denied: Denied) -> CopyFault
+    ensures { result ≡ store_fault denied }
+{
+    match denied {
+        Denied::Failed => CopyFault::Store,
+        Denied::Memory => CopyFault::Memory,
+    }
+}
+
+/// The fault where a call of the nodes or of a snapshot is denied.
+pub(crate) fn of_snap(denied: Denied) -> CopyFault
+    ensures { result ≡ snap_fault denied }
+{
+    match denied {
+        Denied::Failed => CopyFault::Snap,
+        Denied::Memory => CopyFault::Memory,
+    }
 }
 
 /// Puts one of the objects that tell of a backup.
@@ -39,15 +76,9 @@ pub(crate) fn put_meta<S: Storage>(
         (S.state store.new) (S.stood_since store.old) (S.stood_since store.new)) }
     ensures cause { HasCause (S.state store.old).faults (S.state store.new).faults result }
 {
-    let path = match layout.meta(alloc, node, name, kind) {
-        Ok(path) => path,
-        Err(NoMemory) => return Err(Denied::Memory),
-    };
-    match store.put(alloc, &path, bytes) {
-        Ok(_) => Ok(()),
-        Err(Denied::Failed) => Err(Denied::Failed),
-        Err(Denied::Memory) => Err(Denied::Memory),
-    }
+    let path = layout.meta(alloc, node, name, kind)?;
+    store.put(alloc, &path, bytes)?;
+    Ok(())
 }
 
 // Reads a file of the snapshot and puts it under its own path.
@@ -75,30 +106,17 @@ fn place<S: Storage, P: Snap>(
         (IsCaused (P.faults snap.old) (P.faults snap.new) (S.state store.old).faults
         (S.state store.new).faults) }
 {
-    let path = match layout.own(alloc, node, name, key) {
-        Ok(path) => path,
-        Err(NoMemory) => return Err(CopyFault::Memory),
-    };
-    let record_key = match key.copy(alloc) {
-        Ok(key) => key,
-        Err(NoMemory) => return Err(CopyFault::Memory),
-    };
-    let bytes = match snap.read(alloc, key) {
-        Ok(bytes) => bytes,
-        Err(Denied::Failed) => return Err(CopyFault::Snap),
-        Err(Denied::Memory) => return Err(CopyFault::Memory),
-    };
+    let path = layout.own(alloc, node, name, key)?;
+    let record_key = key.copy(alloc)?;
+    let bytes = snap.read(alloc, key).map_err(of_snap)?;
     let text = bytes.as_slice();
     let fingerprint = Fingerprint::of(text);
-    match store.put(alloc, &path, text) {
-        Ok(_) => Ok(FileRecord {
-            key: record_key,
-            path,
-            fingerprint,
-        }),
-        Err(Denied::Failed) => Err(CopyFault::Store),
-        Err(Denied::Memory) => Err(CopyFault::Memory),
-    }
+    store.put(alloc, &path, text).map_err(of_store)?;
+    Ok(FileRecord {
+        key: record_key,
+        path,
+        fingerprint,
+    })
 }
 
 /// Places the files of all keys, in their order.
@@ -128,14 +146,8 @@ pub(crate) fn place_all<S: Storage, P: Snap>(
 {
     let mut files = Vec::new(alloc);
     for key in keys {
-        let record = match place(alloc, store, snap, layout, node, name, key) {
-            Ok(record) => record,
-            Err(fault) => return Err(fault),
-        };
-        match files.push(record) {
-            Ok(()) => {}
-            Err(_) => return Err(CopyFault::Memory),
-        }
+        let record = place(alloc, store, snap, layout, node, name, key)?;
+        files.push(record)?;
     }
     Ok(files)
 }

@@ -1,5 +1,6 @@
 use Rattle.std.proofs.Common.{[], inr, Vec, Global, arith}
 use Rattle.std.proofs.lemmas.Result.{IfOk-weaker}
+use Rattle.med_backup.proofs.Denials.{good}
 use Rattle.med_backup.proofs.NodeSteps.{later_rose, left_later}
 use Rattle.med_manifest.specs.declared.manifest.FileRecord.{FileRecord}
 use Rattle.med_outside.specs.Ends.{seen}
@@ -12,19 +13,19 @@ use Rattle.med_backup.specs.NodeConfig.{node_config_of, opened_at, snap_at}
 use Rattle.med_backup.proofs.NodeSteps.{same_content, made_after}
 use Rattle.med_backup.proofs.node.backup_node.Goals as goal
 
-pub returns-in-Ok-clause-ok : goal.returns-in-Ok-clause-ok
-returns-in-Ok-clause-ok g c =
+pub returns-clause-ok : goal.returns-clause-ok
+returns-clause-ok g c =
     let first : ChangesWithin [] (opened_at (node_config_of c.args.config.now)
     (g.S.Storage.state c.args.store.now))
-    (g.S.Storage.state c.open.new.self) (g.S.Storage.stood_since c.args.store.now)
-    (g.S.Storage.stood_since c.open.new.self) =
-    rw (c.as_str-base.ensures.value, c.as_str-bucket.ensures.value) at c.in-Ok.ensures.ok in
+    (g.S.Storage.state c.open-opened.new.self) (g.S.Storage.stood_since c.args.store.now)
+    (g.S.Storage.stood_since c.open-opened.new.self) =
+    rw (c.as_str-base.ensures.value, c.as_str-bucket.ensures.value) at (good c.open-opened.result c.in_ok-map_err.ensures.variant c.open-opened.ensures.ok) in
     let held = snap_at (g.N.Nodes.state c.args.nodes.now).snaps (node_config_of c.args.config.now)
     c.args.name.now in
     IfOk-weaker c.backup_opened.result
     (λ (files : Vec FileRecord Global). IsBackedUpFrom c.args.config.now.layout c.args.config.now.node
-    c.args.name.now held (g.S.Storage.state c.open.new.self)
-    (g.S.Storage.state c.backup_opened.new.store) (g.S.Storage.stood_since c.open.new.self)
+    c.args.name.now held (g.S.Storage.state c.open-opened.new.self)
+    (g.S.Storage.state c.backup_opened.new.store) (g.S.Storage.stood_since c.open-opened.new.self)
     (g.S.Storage.stood_since c.backup_opened.new.store) files.items)
     (λ (files : Vec FileRecord Global). IsBackedUpFrom c.args.config.now.layout c.args.config.now.node
     c.args.name.now held
@@ -33,28 +34,28 @@ returns-in-Ok-clause-ok g c =
     (g.S.Storage.stood_since c.backup_opened.new.store) files.items)
     (λ files made. made_after c.args.config.now.layout c.args.config.now.node c.args.name.now held
     (opened_at (node_config_of c.args.config.now) (g.S.Storage.state c.args.store.now))
-    (g.S.Storage.state c.open.new.self) (g.S.Storage.state c.backup_opened.new.store)
-    (g.S.Storage.stood_since c.args.store.now) (g.S.Storage.stood_since c.open.new.self)
+    (g.S.Storage.state c.open-opened.new.self) (g.S.Storage.state c.backup_opened.new.store)
+    (g.S.Storage.stood_since c.args.store.now) (g.S.Storage.stood_since c.open-opened.new.self)
     (g.S.Storage.stood_since c.backup_opened.new.store) files.items first made)
     c.backup_opened.ensures.ok
 
-pub returns-in-Ok-clause-ends : goal.returns-in-Ok-clause-ends
-returns-in-Ok-clause-ends g c =
+pub returns-clause-ends : goal.returns-clause-ends
+returns-clause-ends g c =
     let node_config = node_config_of c.args.config.now in
     let first : ChangesWithin [] (opened_at node_config (g.S.Storage.state c.args.store.now))
-    (g.S.Storage.state c.open.new.self) (g.S.Storage.stood_since c.args.store.now)
-    (g.S.Storage.stood_since c.open.new.self) =
-    rw (c.as_str-base.ensures.value, c.as_str-bucket.ensures.value) at c.in-Ok.ensures.ok in
+    (g.S.Storage.state c.open-opened.new.self) (g.S.Storage.stood_since c.args.store.now)
+    (g.S.Storage.stood_since c.open-opened.new.self) =
+    rw (c.as_str-base.ensures.value, c.as_str-bucket.ensures.value) at (good c.open-opened.result c.in_ok-map_err.ensures.variant c.open-opened.ensures.ok) in
     let content = same_content (opened_at node_config (g.S.Storage.state c.args.store.now))
-    (g.S.Storage.state c.open.new.self) (g.S.Storage.stood_since c.args.store.now)
-    (g.S.Storage.stood_since c.open.new.self) first.passes in
+    (g.S.Storage.state c.open-opened.new.self) (g.S.Storage.stood_since c.args.store.now)
+    (g.S.Storage.stood_since c.open-opened.new.self) first.passes in
     inr (
       tt,
       tt,
       carried
           (rose_of_node (g.N.Nodes.state c.args.nodes.now).faults
           (g.N.Nodes.state c.backup_opened.new.nodes).faults
-          (g.S.Storage.state c.open.new.self).faults
+          (g.S.Storage.state c.open-opened.new.self).faults
           (g.S.Storage.state c.backup_opened.new.store).faults)
           (rose_of_node (g.N.Nodes.state c.args.nodes.now).faults
           (g.N.Nodes.state c.backup_opened.new.nodes).faults
@@ -64,13 +65,13 @@ returns-in-Ok-clause-ends g c =
           (g.N.Nodes.state c.args.nodes.now).faults
           (g.N.Nodes.state c.backup_opened.new.nodes).faults
           (g.S.Storage.state c.args.store.now).faults
-          (g.S.Storage.state c.open.new.self).faults
+          (g.S.Storage.state c.open-opened.new.self).faults
           (g.S.Storage.state c.backup_opened.new.store).faults (omega arith)
-          c.open.ensures.cause.later)
+          c.open-opened.ensures.cause.later)
           (LeavesOpen node_config c.args.name.now (g.N.Nodes.state c.args.nodes.now)
-          (g.N.Nodes.state c.backup_opened.new.nodes) (g.S.Storage.state c.open.new.self)
+          (g.N.Nodes.state c.backup_opened.new.nodes) (g.S.Storage.state c.open-opened.new.self)
           (g.S.Storage.state c.backup_opened.new.store)
-          (g.S.Storage.stood_since c.open.new.self)
+          (g.S.Storage.stood_since c.open-opened.new.self)
           (g.S.Storage.stood_since c.backup_opened.new.store))
           (LeavesNode node_config c.args.name.now (g.N.Nodes.state c.args.nodes.now)
           (g.N.Nodes.state c.backup_opened.new.nodes) (g.S.Storage.state c.args.store.now)
@@ -79,8 +80,8 @@ returns-in-Ok-clause-ends g c =
           (g.S.Storage.stood_since c.backup_opened.new.store))
           (left_later node_config c.args.name.now (g.N.Nodes.state c.args.nodes.now)
           (g.N.Nodes.state c.backup_opened.new.nodes) (g.S.Storage.state c.args.store.now)
-          (g.S.Storage.state c.open.new.self) (g.S.Storage.state c.backup_opened.new.store)
-          (g.S.Storage.stood_since c.args.store.now) (g.S.Storage.stood_since c.open.new.self)
+          (g.S.Storage.state c.open-opened.new.self) (g.S.Storage.state c.backup_opened.new.store)
+          (g.S.Storage.stood_since c.args.store.now) (g.S.Storage.stood_since c.open-opened.new.self)
           (g.S.Storage.stood_since c.backup_opened.new.store) first)
           (opened_plan node_config c.args.name.now (g.N.Nodes.state c.args.nodes.now).snaps
           (g.S.Storage.state c.args.store.now).content)

@@ -5,6 +5,7 @@ use Rattle.med_outside.specs.World.{rose_of_node}
 use Rattle.med_outside.proofs.EndsLemmas.{carried_as}
 use Rattle.med_backup.specs.Plan.{ChangeLists, IsMadeBy, LeavesOpen, Worked, snapshot_plan, stop_of}
 use Rattle.med_backup.specs.NodeConfig.{node_config_of, snap_at, tag_of}
+use Rattle.med_backup.proofs.Denials.{value_of, counts_of}
 use Rattle.med_backup.proofs.NodeSteps.{closed_rose, on_ok}
 use Rattle.med_backup.proofs.node.backup_opened.Goals as goal
 
@@ -16,7 +17,7 @@ returns-clause-snapshot g c =
     let counts : (g.N.Nodes.state c.close.new.self).counts ≡ opened_once
     (tagged c.as_str-root.result.now c.args.config.now.node c.as_str-2.result.now)
     (g.N.Nodes.state c.args.nodes.now).counts =
-    c.close.ensures.counts ∙ ap with_closed c.in-Ok-open.ensures.counts in
+    c.close.ensures.counts ∙ ap with_closed (c.open-opened.ensures.counts ∙ counts_of c.open-opened.result _ _ c.in_ok-snap.ensures.variant) in
     on_ok c.backup_snapshot-answer.result (rw (c.as_str-root.ensures.value, tag) at counts)
 
 pub returns-clause-ends : goal.returns-clause-ends
@@ -27,7 +28,7 @@ returns-clause-ends g c =
     let counts : (g.N.Nodes.state c.close.new.self).counts ≡ opened_once
     (tagged c.as_str-root.result.now c.args.config.now.node c.as_str-2.result.now)
     (g.N.Nodes.state c.args.nodes.now).counts =
-    c.close.ensures.counts ∙ ap with_closed c.in-Ok-open.ensures.counts in
+    c.close.ensures.counts ∙ ap with_closed (c.open-opened.ensures.counts ∙ counts_of c.open-opened.result _ _ c.in_ok-snap.ensures.variant) in
     let made = IsMadeBy (g.S.Storage.state c.args.store.now)
     (g.S.Storage.state c.backup_snapshot-answer.new.store)
     (g.S.Storage.stood_since c.args.store.now)
@@ -36,7 +37,7 @@ returns-clause-ends g c =
       tt,
       tt,
       carried_as
-          (rose_of_node (g.N.Snap.Snap.faults c.in-Ok-open.snap)
+          (rose_of_node (g.N.Snap.Snap.faults c.in_ok-snap.snap)
           (g.N.Snap.Snap.faults c.backup_snapshot-answer.new.snap)
           (g.S.Storage.state c.args.store.now).faults
           (g.S.Storage.state c.backup_snapshot-answer.new.store).faults)
@@ -45,12 +46,13 @@ returns-clause-ends g c =
           (g.S.Storage.state c.args.store.now).faults
           (g.S.Storage.state c.backup_snapshot-answer.new.store).faults)
           (closed_rose (g.N.Nodes.state c.args.nodes.now).faults
-          (g.N.Nodes.state c.open.new.self).faults (g.N.Nodes.state c.close.new.self).faults
-          (g.N.Snap.Snap.faults c.in-Ok-open.snap)
+          (g.N.Nodes.state c.open-opened.new.self).faults (g.N.Nodes.state c.close.new.self).faults
+          (g.N.Snap.Snap.faults c.in_ok-snap.snap)
           (g.N.Snap.Snap.faults c.backup_snapshot-answer.new.snap)
           (g.S.Storage.state c.args.store.now).faults
           (g.S.Storage.state c.backup_snapshot-answer.new.store).faults
-          c.open.ensures.cause.later c.in-Ok-open.ensures.fresh c.close.ensures.faults)
+          c.open-opened.ensures.cause.later (value_of _ _ c.open-opened.result c.in_ok-snap.snap c.in_ok-snap.ensures.variant
+          c.in_ok-snap.ensures.cases c.open-opened.ensures.fresh) c.close.ensures.faults)
           made
           (LeavesOpen node_config c.args.name.now (g.N.Nodes.state c.args.nodes.now)
           (g.N.Nodes.state c.close.new.self) (g.S.Storage.state c.args.store.now)
@@ -63,6 +65,11 @@ returns-clause-ends g c =
           (snap_at (g.N.Nodes.state c.args.nodes.now).snaps node_config c.args.name.now)
           (g.S.Storage.state c.args.store.now).content)
           (seen (λ files. files.items) (stop_of c.args.name.now) c.backup_snapshot-answer.result)
-          (rw (c.in-Ok-open.ensures.held, c.as_str-root.ensures.value, tag)
+          (rw (
+            value_of _ _ c.open-opened.result c.in_ok-snap.snap c.in_ok-snap.ensures.variant
+                c.in_ok-snap.ensures.cases c.open-opened.ensures.held,
+            c.as_str-root.ensures.value,
+            tag,
+          )
           at c.backup_snapshot-answer.ensures.ends),
     )

@@ -1,21 +1,23 @@
 use Rattle.std.proofs.Common.{Ok, Err}
+use Rattle.std.proofs.lemmas.Result.{err_from_is_err_and}
 use Rattle.med_outside.specs.World.{rose_of_node}
 use Rattle.med_outside.proofs.EndsLemmas.{carried, goes_on, stops_all}
 use Rattle.med_backup.specs.Plan.{IsMadeBy, look_plan, copy_plan, found_of, stop_of, stop_of_fault}
 use Rattle.med_backup.proofs.NodeSteps.{later_rose, same_content, made_later, copied_after}
 use Rattle.med_backup.proofs.node.backup_snapshot.Goals as goal
 
-pub returns-in-Err-clause-ends : goal.returns-in-Err-clause-ends
-returns-in-Err-clause-ends g c =
-    stops_all (rose_of_node (g.P.Snap.faults c.args.snap.now) (g.P.Snap.faults c.look.new.snap)
+pub returns-in_err-found-clause-ends : goal.returns-in_err-found-clause-ends
+returns-in_err-found-clause-ends g c =
+    let p = err_from_is_err_and c.from_residual.result c.from_residual.ensures.1 in
+    rw (p.1, p.2) (stops_all (rose_of_node (g.P.Snap.faults c.args.snap.now) (g.P.Snap.faults c.look.new.snap)
     (g.S.Storage.state c.args.store.now).faults (g.S.Storage.state c.look.new.store).faults)
     (IsMadeBy (g.S.Storage.state c.args.store.now) (g.S.Storage.state c.look.new.store)
     (g.S.Storage.stood_since c.args.store.now) (g.S.Storage.stood_since c.look.new.store))
     (λ found. copy_plan c.args.layout.now c.args.node.now c.args.name.now
     (g.P.Snap.held c.args.snap.now) found.0 found.1)
-    (stop_of c.args.name.now c.in-Err.refusal)
+    (stop_of c.args.name.now c.in_err-found.field-0.0)
     (look_plan c.args.layout.now c.args.node.now c.args.name.now (g.P.Snap.held c.args.snap.now)
-    (g.S.Storage.state c.args.store.now).content) c.in-Err.ensures.ends
+    (g.S.Storage.state c.args.store.now).content) c.in_err-found.ensures.ends)
 
 pub copy_found-requires : goal.copy_found-requires
 copy_found-requires g c =
@@ -23,58 +25,22 @@ copy_found-requires g c =
     (g.S.Storage.state c.look.new.store) (g.S.Storage.stood_since c.args.store.now)
     (g.S.Storage.stood_since c.look.new.store)
     c.look.ensures.looks.moves.passes in
-    rw (c.look.ensures.same, content) c.in-Ok.ensures.ok
+    rw (c.look.ensures.same, content) c.in_ok-found.ensures.ok
 
-pub returns-in-Ok-copy_found-clause-ok : goal.returns-in-Ok-copy_found-clause-ok
-returns-in-Ok-copy_found-clause-ok g c = record {
-  order = c.in-Ok.found.keys.items;
-  schema = c.in-Ok.found.schema.items;
-  found = c.in-Ok.ensures.ok;
+pub returns-clause-ok : goal.returns-clause-ok
+returns-clause-ok g c = record {
+  order = c.in_ok-found.found.keys.items;
+  schema = c.in_ok-found.found.schema.items;
+  found = c.in_ok-found.ensures.ok;
   copied = copied_after c.args.layout.now c.args.node.now c.args.name.now
-      (g.P.Snap.held c.args.snap.now) c.in-Ok.found.keys.items c.in-Ok.found.schema.items
+      (g.P.Snap.held c.args.snap.now) c.in_ok-found.found.keys.items c.in_ok-found.found.schema.items
       (g.S.Storage.state c.args.store.now) (g.S.Storage.state c.look.new.store)
       (g.S.Storage.state c.copy_found.new.store)
       (g.S.Storage.stood_since c.args.store.now) (g.S.Storage.stood_since c.look.new.store)
       (g.S.Storage.stood_since c.copy_found.new.store)
-      c.in-Ok-copy_found.files.items c.look.ensures.looks.moves
-      (rw c.look.ensures.same at c.in-Ok-copy_found.ensures.ok);
+      c.in_ok-files.files.items c.look.ensures.looks.moves
+      (rw c.look.ensures.same at c.in_ok-files.ensures.ok);
 }
-
-pub returns-in-Ok-copy_found-clause-ends : goal.returns-in-Ok-copy_found-clause-ends
-returns-in-Ok-copy_found-clause-ends g c =
-    let low = rose_of_node (g.P.Snap.faults c.args.snap.now) (g.P.Snap.faults c.look.new.snap)
-    (g.S.Storage.state c.args.store.now).faults (g.S.Storage.state c.look.new.store).faults in
-    let mid = rose_of_node (g.P.Snap.faults c.look.new.snap) (g.P.Snap.faults c.copy_found.new.snap)
-    (g.S.Storage.state c.look.new.store).faults (g.S.Storage.state c.copy_found.new.store).faults in
-    let rose = rose_of_node (g.P.Snap.faults c.args.snap.now)
-    (g.P.Snap.faults c.copy_found.new.snap)
-    (g.S.Storage.state c.args.store.now).faults (g.S.Storage.state c.copy_found.new.store).faults in
-    let means = IsMadeBy (g.S.Storage.state c.args.store.now) (g.S.Storage.state c.copy_found.new.store)
-    (g.S.Storage.stood_since c.args.store.now) (g.S.Storage.stood_since c.copy_found.new.store) in
-    goes_on rose means
-    (λ found. copy_plan c.args.layout.now c.args.node.now c.args.name.now
-    (g.P.Snap.held c.args.snap.now) found.0 found.1) low
-    (IsMadeBy (g.S.Storage.state c.args.store.now) (g.S.Storage.state c.look.new.store)
-    (g.S.Storage.stood_since c.args.store.now) (g.S.Storage.stood_since c.look.new.store))
-    (found_of c.in-Ok.found) (Ok c.in-Ok-copy_found.files.items)
-    (look_plan c.args.layout.now c.args.node.now c.args.name.now (g.P.Snap.held c.args.snap.now)
-    (g.S.Storage.state c.args.store.now).content) c.in-Ok.ensures.ends
-    (carried mid rose
-    (later_rose (g.P.Snap.faults c.args.snap.now) (g.P.Snap.faults c.look.new.snap)
-    (g.P.Snap.faults c.copy_found.new.snap)
-    (g.S.Storage.state c.args.store.now).faults (g.S.Storage.state c.look.new.store).faults
-    (g.S.Storage.state c.copy_found.new.store).faults c.look.ensures.snap_later
-    c.look.ensures.store_later)
-    (IsMadeBy (g.S.Storage.state c.look.new.store) (g.S.Storage.state c.copy_found.new.store)
-    (g.S.Storage.stood_since c.look.new.store) (g.S.Storage.stood_since c.copy_found.new.store))
-    means
-    (made_later (g.S.Storage.state c.args.store.now) (g.S.Storage.state c.look.new.store)
-    (g.S.Storage.state c.copy_found.new.store) (g.S.Storage.stood_since c.args.store.now)
-    (g.S.Storage.stood_since c.look.new.store) (g.S.Storage.stood_since c.copy_found.new.store)
-    c.look.ensures.looks.moves)
-    (copy_plan c.args.layout.now c.args.node.now c.args.name.now (g.P.Snap.held c.args.snap.now)
-    c.in-Ok.found.keys.items c.in-Ok.found.schema.items) (Ok c.in-Ok-copy_found.files.items)
-    (rw c.look.ensures.same at c.in-Ok-copy_found.ensures.ends))
 
 pub returns-clause-ends : goal.returns-clause-ends
 returns-clause-ends g c =
@@ -92,9 +58,9 @@ returns-clause-ends g c =
     (g.P.Snap.held c.args.snap.now) found.0 found.1) low
     (IsMadeBy (g.S.Storage.state c.args.store.now) (g.S.Storage.state c.look.new.store)
     (g.S.Storage.stood_since c.args.store.now) (g.S.Storage.stood_since c.look.new.store))
-    (found_of c.in-Ok.found) (Err (stop_of_fault c.in-Err-copy_found.fault))
+    (found_of c.in_ok-found.found) (Ok c.in_ok-files.files.items)
     (look_plan c.args.layout.now c.args.node.now c.args.name.now (g.P.Snap.held c.args.snap.now)
-    (g.S.Storage.state c.args.store.now).content) c.in-Ok.ensures.ends
+    (g.S.Storage.state c.args.store.now).content) c.in_ok-found.ensures.ends
     (carried mid rose
     (later_rose (g.P.Snap.faults c.args.snap.now) (g.P.Snap.faults c.look.new.snap)
     (g.P.Snap.faults c.copy_found.new.snap)
@@ -109,5 +75,42 @@ returns-clause-ends g c =
     (g.S.Storage.stood_since c.look.new.store) (g.S.Storage.stood_since c.copy_found.new.store)
     c.look.ensures.looks.moves)
     (copy_plan c.args.layout.now c.args.node.now c.args.name.now (g.P.Snap.held c.args.snap.now)
-    c.in-Ok.found.keys.items c.in-Ok.found.schema.items) (Err (stop_of_fault c.in-Err-copy_found.fault))
-    (rw c.look.ensures.same at c.in-Err-copy_found.ensures.ends))
+    c.in_ok-found.found.keys.items c.in_ok-found.found.schema.items) (Ok c.in_ok-files.files.items)
+    (rw c.look.ensures.same at c.in_ok-files.ensures.ends))
+
+pub returns-in_err-files-clause-ends : goal.returns-in_err-files-clause-ends
+returns-in_err-files-clause-ends g c =
+    let p = err_from_is_err_and c.from_residual-in_err-files.result c.from_residual-in_err-files.ensures.1 in
+    let low = rose_of_node (g.P.Snap.faults c.args.snap.now) (g.P.Snap.faults c.look.new.snap)
+    (g.S.Storage.state c.args.store.now).faults (g.S.Storage.state c.look.new.store).faults in
+    let mid = rose_of_node (g.P.Snap.faults c.look.new.snap) (g.P.Snap.faults c.copy_found.new.snap)
+    (g.S.Storage.state c.look.new.store).faults (g.S.Storage.state c.copy_found.new.store).faults in
+    let rose = rose_of_node (g.P.Snap.faults c.args.snap.now)
+    (g.P.Snap.faults c.copy_found.new.snap)
+    (g.S.Storage.state c.args.store.now).faults (g.S.Storage.state c.copy_found.new.store).faults in
+    let means = IsMadeBy (g.S.Storage.state c.args.store.now) (g.S.Storage.state c.copy_found.new.store)
+    (g.S.Storage.stood_since c.args.store.now) (g.S.Storage.stood_since c.copy_found.new.store) in
+    rw (p.1, p.2) (goes_on rose means
+    (λ found. copy_plan c.args.layout.now c.args.node.now c.args.name.now
+    (g.P.Snap.held c.args.snap.now) found.0 found.1) low
+    (IsMadeBy (g.S.Storage.state c.args.store.now) (g.S.Storage.state c.look.new.store)
+    (g.S.Storage.stood_since c.args.store.now) (g.S.Storage.stood_since c.look.new.store))
+    (found_of c.in_ok-found.found) (Err (stop_of_fault c.in_err-files.field-0.0))
+    (look_plan c.args.layout.now c.args.node.now c.args.name.now (g.P.Snap.held c.args.snap.now)
+    (g.S.Storage.state c.args.store.now).content) c.in_ok-found.ensures.ends
+    (carried mid rose
+    (later_rose (g.P.Snap.faults c.args.snap.now) (g.P.Snap.faults c.look.new.snap)
+    (g.P.Snap.faults c.copy_found.new.snap)
+    (g.S.Storage.state c.args.store.now).faults (g.S.Storage.state c.look.new.store).faults
+    (g.S.Storage.state c.copy_found.new.store).faults c.look.ensures.snap_later
+    c.look.ensures.store_later)
+    (IsMadeBy (g.S.Storage.state c.look.new.store) (g.S.Storage.state c.copy_found.new.store)
+    (g.S.Storage.stood_since c.look.new.store) (g.S.Storage.stood_since c.copy_found.new.store))
+    means
+    (made_later (g.S.Storage.state c.args.store.now) (g.S.Storage.state c.look.new.store)
+    (g.S.Storage.state c.copy_found.new.store) (g.S.Storage.stood_since c.args.store.now)
+    (g.S.Storage.stood_since c.look.new.store) (g.S.Storage.stood_since c.copy_found.new.store)
+    c.look.ensures.looks.moves)
+    (copy_plan c.args.layout.now c.args.node.now c.args.name.now (g.P.Snap.held c.args.snap.now)
+    c.in_ok-found.found.keys.items c.in_ok-found.found.schema.items) (Err (stop_of_fault c.in_err-files.field-0.0))
+    (rw c.look.ensures.same at c.in_err-files.ensures.ends)))

@@ -1,46 +1,41 @@
-use Rattle.std.proofs.Common.{ap, Err}
 use Rattle.med_outside.proofs.Passing.{moves_at_rest}
+use Rattle.med_backup.proofs.Denials.{on_err, value_of, some_value, may_put}
 use Rattle.med_backup.proofs.Placed.{none_placed, one_placed, maybe_placed}
 use Rattle.med_backup.proofs.place.place.Goals as goal
 
-pub returns-in-Err-clause-err : goal.returns-in-Err-clause-err
-returns-in-Err-clause-err g c = none_placed _ _ _ _ _ _ _ _ _
-    (moves_at_rest (g.S.Storage.state c.args.store.now) (g.S.Storage.stood_since c.args.store.now))
+pub returns-in_err-path-clause-err : goal.returns-in_err-path-clause-err
+returns-in_err-path-clause-err g c = on_err _ (none_placed _ _ _ _ _ _ _ _ _
+    (moves_at_rest (g.S.Storage.state c.args.store.now) (g.S.Storage.stood_since c.args.store.now)))
 
-pub returns-in-Err-copy-clause-err : goal.returns-in-Err-copy-clause-err
-returns-in-Err-copy-clause-err g c = none_placed _ _ _ _ _ _ _ _ _
-    (moves_at_rest (g.S.Storage.state c.args.store.now) (g.S.Storage.stood_since c.args.store.now))
+pub returns-in_err-record_key-clause-err : goal.returns-in_err-record_key-clause-err
+returns-in_err-record_key-clause-err g c = on_err _ (none_placed _ _ _ _ _ _ _ _ _
+    (moves_at_rest (g.S.Storage.state c.args.store.now) (g.S.Storage.stood_since c.args.store.now)))
 
-pub returns-in-Err-Failed-clause-err : goal.returns-in-Err-Failed-clause-err
-returns-in-Err-Failed-clause-err g c = none_placed _ _ _ _ _ _ _ _ _
-    (moves_at_rest (g.S.Storage.state c.args.store.now) (g.S.Storage.stood_since c.args.store.now))
+pub returns-in_err-bytes-clause-err : goal.returns-in_err-bytes-clause-err
+returns-in_err-bytes-clause-err g c = on_err _ (none_placed _ _ _ _ _ _ _ _ _
+    (moves_at_rest (g.S.Storage.state c.args.store.now) (g.S.Storage.stood_since c.args.store.now)))
 
-pub returns-in-Err-Memory-clause-err : goal.returns-in-Err-Memory-clause-err
-returns-in-Err-Memory-clause-err g c = none_placed _ _ _ _ _ _ _ _ _
-    (moves_at_rest (g.S.Storage.state c.args.store.now) (g.S.Storage.stood_since c.args.store.now))
-
-pub returns-in-Ok-put-clause-ok : goal.returns-in-Ok-put-clause-ok
-returns-in-Ok-put-clause-ok g c =
-    one_placed _ _ _ (g.P.Snap.held c.args.snap.now) c.args.key.now c.in-Ok-copy.key c.in-Ok.path
-    c.as_slice-text.result.now c.of-fingerprint.result c.in-Ok-put.field-0
-    (g.S.Storage.state c.args.store.now) (g.S.Storage.state c.put.new.self)
-    (g.S.Storage.stood_since c.args.store.now) (g.S.Storage.stood_since c.put.new.self)
-    c.in-Ok-copy.ensures c.in-Ok.ensures c.of-fingerprint.ensures
-    (rw c.as_slice-text.ensures.value c.in-Ok-read.ensures.bytes) c.in-Ok-put.ensures.ok.moves
-
-pub returns-in-Err-Failed-put-clause-err : goal.returns-in-Err-Failed-put-clause-err
-returns-in-Err-Failed-put-clause-err g c =
-    maybe_placed _ _ _ (g.P.Snap.held c.args.snap.now) c.args.key.now c.in-Ok.path
+pub returns-in_err-map_err-clause-err : goal.returns-in_err-map_err-clause-err
+returns-in_err-map_err-clause-err g c =
+    on_err _ (maybe_placed _ _ _ (g.P.Snap.held c.args.snap.now) c.args.key.now c.in_ok-path.path
     c.as_slice-text.result.now
     (g.S.Storage.state c.args.store.now) (g.S.Storage.state c.put.new.self)
     (g.S.Storage.stood_since c.args.store.now) (g.S.Storage.stood_since c.put.new.self)
-    c.in-Ok.ensures (rw c.as_slice-text.ensures.value c.in-Ok-read.ensures.bytes)
-    (c.in-Err-Failed-put.ensures.failed (ap Err c.in-Err-Failed-put.field-0-is))
+    c.in_ok-path.ensures
+    (rw c.as_slice-text.ensures.value
+    (value_of _ _ c.read.result c.in_ok-bytes.bytes c.in_ok-bytes.ensures.variant
+    c.in_ok-bytes.ensures.cases c.read.ensures.bytes))
+    (may_put _ _ _ _ _ _ c.put.result c.in_err-map_err.ensures.variant c.put.ensures.failed
+    c.put.ensures.memory))
 
-pub returns-clause-err : goal.returns-clause-err
-returns-clause-err g c =
-    let looks = c.in-Err-Memory-put.ensures.memory (ap Err c.in-Err-Memory-put.field-0-is) in
-    none_placed _ _ _ (g.P.Snap.held c.args.snap.now) _
+pub returns-clause-ok : goal.returns-clause-ok
+returns-clause-ok g c =
+    let put = some_value _ c.put.result c.in_ok-map_err.ensures.variant c.put.ensures.ok in
+    one_placed _ _ _ (g.P.Snap.held c.args.snap.now) c.args.key.now c.in_ok-record_key.record_key
+    c.in_ok-path.path c.as_slice-text.result.now c.of-fingerprint.result put.0
     (g.S.Storage.state c.args.store.now) (g.S.Storage.state c.put.new.self)
     (g.S.Storage.stood_since c.args.store.now) (g.S.Storage.stood_since c.put.new.self)
-    looks.moves
+    c.in_ok-record_key.ensures c.in_ok-path.ensures c.of-fingerprint.ensures
+    (rw c.as_slice-text.ensures.value
+    (value_of _ _ c.read.result c.in_ok-bytes.bytes c.in_ok-bytes.ensures.variant
+    c.in_ok-bytes.ensures.cases c.read.ensures.bytes)) put.1.moves

@@ -2,6 +2,7 @@ use Rattle.std.proofs.Common.{◌≡◌, ◌∙◌, [], ◌∷◌, ◌+◌, take
 use Rattle.std.proofs.lemmas.List.{take_all}
 use Rattle.med_base.proofs.Lists.{take_next, split_at}
 use Rattle.med_outside.proofs.Passing.{moves_at_rest}
+use Rattle.med_backup.proofs.Denials.{on_err}
 use Rattle.med_backup.proofs.Placed.{key_at, nothing_placed, placed_on, some_on, all_are_some}
 use Rattle.med_backup.proofs.place.place_all.Goals as goal
 
@@ -25,12 +26,12 @@ place-requires g c =
 
 pub loop-key-preserved : goal.loop-key-preserved
 loop-key-preserved g c =
-    let one = rw c.loop-key.invariant.same at c.in-Ok.ensures.ok in
+    let one = rw c.loop-key.invariant.same at c.in_ok-record.ensures.ok in
     record {
       placed = rw (
         take_next c.args.keys.now c.loop-key.key-index c.key-item.result
             c.loop-key-test.true c.key-item.is,
-        c.in-Ok-push.ensures.items,
+        c.in_ok-push.ensures.items,
       )
           (placed_on _ _ _ (g.P.Snap.held c.args.snap.now)
           (take c.loop-key.key-index c.args.keys.now) (c.key-item.result ∷ [])
@@ -38,15 +39,15 @@ loop-key-preserved g c =
           (g.S.Storage.state c.place.new.store)
           (g.S.Storage.stood_since c.args.store.now) (g.S.Storage.stood_since c.loop-key.store)
           (g.S.Storage.stood_since c.place.new.store)
-          c.loop-key.files.items (c.in-Ok.record ∷ []) c.loop-key.invariant.placed one);
+          c.loop-key.files.items (c.in_ok-record.record ∷ []) c.loop-key.invariant.placed one);
       same = c.place.ensures.same ∙ c.loop-key.invariant.same;
       snap_later = omega (arith, c.loop-key.invariant.snap_later, c.place.ensures.snap_later);
       store_later = omega (arith, c.loop-key.invariant.store_later, c.place.ensures.store_later);
     }
 
-pub returns-in-Err-clause-err : goal.returns-in-Err-clause-err
-returns-in-Err-clause-err g c =
-    some_on _ _ _ (g.P.Snap.held c.args.snap.now) c.args.keys.now
+pub returns-in_err-record-clause-err : goal.returns-in_err-record-clause-err
+returns-in_err-record-clause-err g c =
+    on_err _ (some_on _ _ _ (g.P.Snap.held c.args.snap.now) c.args.keys.now
     (take c.loop-key.key-index c.args.keys.now) (c.key-item.result ∷ [])
     (drop (c.loop-key.key-index + 1) c.args.keys.now)
     (g.S.Storage.state c.args.store.now) (g.S.Storage.state c.loop-key.store)
@@ -55,12 +56,12 @@ returns-in-Err-clause-err g c =
     (g.S.Storage.stood_since c.place.new.store)
     (split_at c.args.keys.now c.loop-key.key-index c.key-item.result c.loop-key-test.true
     c.key-item.is)
-    c.loop-key.invariant.placed.places (rw c.loop-key.invariant.same at c.in-Err.ensures.err)
+    c.loop-key.invariant.placed.places (rw c.loop-key.invariant.same at c.in_err-record.ensures.err))
 
-pub returns-in-Err-push-clause-err : goal.returns-in-Err-push-clause-err
-returns-in-Err-push-clause-err g c =
-    let one = rw c.loop-key.invariant.same at c.in-Ok.ensures.ok in
-    some_on _ _ _ (g.P.Snap.held c.args.snap.now) c.args.keys.now
+pub returns-in_err-push-clause-err : goal.returns-in_err-push-clause-err
+returns-in_err-push-clause-err g c =
+    let one = rw c.loop-key.invariant.same at c.in_ok-record.ensures.ok in
+    on_err _ (some_on _ _ _ (g.P.Snap.held c.args.snap.now) c.args.keys.now
     (take c.loop-key.key-index c.args.keys.now) (c.key-item.result ∷ [])
     (drop (c.loop-key.key-index + 1) c.args.keys.now)
     (g.S.Storage.state c.args.store.now) (g.S.Storage.state c.loop-key.store)
@@ -73,7 +74,7 @@ returns-in-Err-push-clause-err g c =
     (all_are_some _ _ _ (g.P.Snap.held c.args.snap.now) (c.key-item.result ∷ [])
     (g.S.Storage.state c.loop-key.store) (g.S.Storage.state c.place.new.store)
     (g.S.Storage.stood_since c.loop-key.store) (g.S.Storage.stood_since c.place.new.store)
-    one.places)
+    one.places))
 
 pub returns-clause-ok : goal.returns-clause-ok
 returns-clause-ok g c =

@@ -1,0 +1,76 @@
+-- What is known of a call whose refusal was changed by `map_err`.
+use Rattle.std.proofs.Common.{◌≡◌, inl, inr, ℕ, List, true, false, is_ok, Result, Ok, Err, IfOk, OnOk, OnErr, MatchResult, ◌≤◌, arith, refl, sym, subst}
+use Rattle.med_outside.specs.declared.denied.Denied.{Denied}
+use Rattle.med_outside.specs.declared.denied.Denied.TheVariants.{Failed, Memory}
+use Rattle.med_outside.specs.Causes.{RoseOrFull}
+use Rattle.med_outside.specs.Counts.{SnapshotCounts, Tagged, after_open, with_opened}
+use Rattle.med_outside.specs.Ends.{Refusal, StopsAt}
+use Rattle.med_outside.specs.State.{State, OnlyReads, History}
+use Rattle.med_outside.specs.Storage.{MayPut}
+use Rattle.med_outside.specs.World.{rose_of_node}
+use Rattle.med_backup.specs.Placing.{store_fault}
+use Rattle.med_backup.specs.Plan.{on_storage, stop_of_fault}
+use Rattle.med_backup.specs.declared.place.CopyFault.{CopyFault}
+
+-- what holds holds after a refusal
+pub on_err : {T E : Type 0} {P : Type 0} (r : Result T E) → P → OnErr r P
+on_err (Ok x) h = tt
+on_err (Err e) h = h
+
+-- the call was a good one
+pub good : {T E P : Type 0} (r : Result T E) → true ≡ is_ok r → OnOk r P → P
+good (Ok x) e h = h
+good (Err x) e h = absurd (cc e)
+
+-- the call was refused
+pub bad : {T E P : Type 0} (r : Result T E) → false ≡ is_ok r → OnErr r P → P
+bad (Ok x) e h = absurd (cc e)
+bad (Err x) e h = h
+
+-- the value of a good call
+pub value_of : {T E : Type 0} (P : T → Type 0) (Q : E → Type 0) (r : Result T E) (x : T)
+    → true ≡ is_ok r → MatchResult r (λ y. ◌≡◌ {A = Result T CopyFault} (Ok x) (Ok y)) Q
+    → IfOk r P → P x
+value_of P Q (Ok y) x e is h = subst P (cc is) h
+value_of P Q (Err y) x e is h = absurd (cc e)
+
+-- some value of a good call
+pub some_value : {T E : Type 0} (P : T → Type 0) (r : Result T E) → true ≡ is_ok r → IfOk r P
+    → (x : T) × P x
+some_value P (Ok y) e h = (y, h)
+some_value P (Err y) e h = absurd (cc e)
+
+-- a put that was refused
+pub may_put : (path bytes : List ℕ) (old new : State) (stood_before stood_after : History)
+    (r : Result ℕ Denied) → false ≡ is_ok r
+    → (r ≡ Err Failed → MayPut path bytes old new stood_before stood_after)
+    → (r ≡ Err Memory → OnlyReads old new stood_before stood_after)
+    → MayPut path bytes old new stood_before stood_after
+may_put path bytes old new stood_before stood_after (Ok x) e failed memory = absurd (cc e)
+may_put path bytes old new stood_before stood_after (Err Failed) e failed memory = failed refl
+may_put path bytes old new stood_before stood_after (Err Memory) e failed memory =
+    inl (memory refl)
+
+-- why a call of the storage stopped, where its denial is told as a fault
+pub store_stop : {T U : Type 0} (answers : Result U Refusal → Type 0) (A : T → Type 0)
+    (Q : Denied → Type 0) (rb rn sb sm sn : ℕ) (r : Result T Denied) (fault : CopyFault)
+    → false ≡ is_ok r → MatchResult r A Q
+    → ((denied : Denied) → Q denied → fault ≡ store_fault denied)
+    → (r ≡ Err Failed → RoseOrFull sm sn) → sb ≤ sm
+    → StopsAt (rose_of_node rb rn sb sn) answers on_storage (stop_of_fault fault)
+store_stop answers A Q rb rn sb sm sn (Ok x) fault e is gives rose later = absurd (cc e)
+store_stop answers A Q rb rn sb sm sn (Err Failed) fault e is gives rose later =
+    let risen = rose refl in
+    subst
+    (λ (f : CopyFault). StopsAt (rose_of_node rb rn sb sn) answers on_storage (stop_of_fault f))
+    (sym (gives Failed is)) (inl refl, omega (arith, risen, later))
+store_stop answers A Q rb rn sb sm sn (Err Memory) fault e is gives rose later =
+    subst
+    (λ (f : CopyFault). StopsAt (rose_of_node rb rn sb sn) answers on_storage (stop_of_fault f))
+    (sym (gives Memory is)) (inr (inl refl), tt)
+
+-- the counts after a call that opened a snapshot
+pub counts_of : {T : Type 0} (r : Result T Denied) (of : Tagged) (counts : SnapshotCounts)
+    → true ≡ is_ok r → after_open r of counts ≡ with_opened of counts
+counts_of (Ok snap) of counts e = refl
+counts_of (Err denied) of counts e = absurd (cc e)
