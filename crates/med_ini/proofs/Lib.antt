@@ -2,7 +2,9 @@ pub mod CheckLemmas
 pub mod Distinct
 pub mod Faults
 pub mod LabelLemmas
+pub mod LikeLemmas
 pub mod LineLemmas
+pub mod NameLemmas
 pub mod OneFault
 pub mod OneReading
 pub mod PartLemmas

@@ -1,9 +1,11 @@
+pub mod Alike
 pub mod Document
 pub mod Entries
 pub mod Grammar
 pub mod LabelViews
 pub mod Labels
 pub mod Lines
+pub mod NameOrder
 pub mod Options
 pub mod Parts
 pub mod Texts

@@ -1,14 +1,16 @@
 // What a line is, by the lines before it.
 ghost use Rattle.std.specs.Prelude.{◌≡◌, map, IfOk, IfErr};
-ghost use Rattle.std.specs.List.{list_any};
-ghost use Rattle.std.specs.Str.{bytes_eq, str_to_ascii_lowercase};
-ghost use Rattle.med_ini.specs.Labels.{Fits, IsFault, after, goes_on, is_quiet, is_repeated, is_named, start, IsNew, IsOptionFault};
+ghost use Rattle.std.specs.Str.{str_to_ascii_lowercase};
+ghost use Rattle.med_ini.specs.Alike.{IsLike};
+ghost use Rattle.med_ini.specs.Labels.{Fits, IsFault, after, goes_on, is_quiet, is_repeated, is_taken, start, IsNew, IsOptionFault};
 ghost use Rattle.med_ini.specs.LabelViews.{label_view, named_view, place_view};
 
 use crate::errors::IniKind;
 use crate::lines::{cut_option, header_in, indent_of, is_comment, past_white, strip};
+use crate::names::Name;
 use med_base::NoMemory;
 use std::alloc::Global;
+use std::collections::BTreeSet;
 
 /// What a line is.
 #[derive(Clone, Copy)]
@@ -19,54 +21,21 @@ pub(crate) enum Label<'a> {
     Setting(&'a str, &'a str),
 }
 
-// An option by its section and key.
-#[derive(Clone, Copy)]
-pub(crate) struct Name<'a> {
-    section: &'a str,
-    key: &'a str,
-}
-
 /// Where the lines before leave the reader.
 #[derive(Drop)]
 pub(crate) struct Place<'a> {
     section: Option<&'a str>,
     in_option: bool,
     level: usize,
-    headers: Vec<&'a str>,
-    options: Vec<Name<'a>>,
+    headers: BTreeSet<&'a str>,
+    options: BTreeSet<Name<'a>>,
 }
 
-fn is_same(name: &Name, section: &str, key: &str) -> bool
-    ensures { result ≡ is_named section.now (str_to_ascii_lowercase key.now) (named_view name.now) }
+fn contains_option<'a>(options: &BTreeSet<Name<'a>>, section: &'a str, key: &'a str) -> bool
+    ensures { result ≡ is_taken section.entry.now (map named_view options.now.keys)
+        (str_to_ascii_lowercase key.entry.now) }
 {
-    name.section == section && name.key.eq_ignore_ascii_case(key)
-}
-
-fn contains_option(options: &[Name], section: &str, key: &str) -> bool
-    ensures { result ≡ list_any (is_named section.now (str_to_ascii_lowercase key.now))
-        (map named_view options.now) }
-{
-    let mut left = options;
-    'options: while let [first, rest @ ..] = left {
-        if is_same(first, section, key) {
-            return true;
-        }
-        left = rest;
-    }
-    false
-}
-
-fn contains_header(headers: &[&str], name: &str) -> bool
-    ensures { result ≡ list_any (λ seen. bytes_eq seen name.now) (map (λ s. s.now) headers.now) }
-{
-    let mut left = headers;
-    'headers: while let [first, rest @ ..] = left {
-        if *first == name {
-            return true;
-        }
-        left = rest;
-    }
-    false
+    options.contains(&Name { section, key })
 }
 
 /// Before the first line.
@@ -77,8 +46,8 @@ pub(crate) fn first_place<'a>(alloc: Global) -> Place<'a>
         section: None,
         in_option: false,
         level: 0,
-        headers: Vec::new(alloc),
-        options: Vec::new(alloc),
+        headers: BTreeSet::new(alloc),
+        options: BTreeSet::new(alloc),
     }
 }
 
@@ -98,19 +67,19 @@ fn continues(place: &Place, line: &str) -> bool
 fn is_seen(place: &Place, name: &str) -> bool
     ensures { result ≡ is_repeated (place_view place.now) name.now }
 {
-    name != "DEFAULT" && contains_header(place.headers.as_slice(), name)
+    name != "DEFAULT" && place.headers.contains(name)
 }
 
 // The key and the value of a new option of the section, or why there is none.
 fn option_in<'a>(
-    options: &[Name],
-    section: &str,
+    options: &BTreeSet<Name<'a>>,
+    section: &'a str,
     text: &'a str,
 ) -> Result<(&'a str, &'a str), IniKind>
-    ensures ok { IfOk result (λ p. IsNew section.now (map named_view options.now) text.entry.now
-        (str_to_ascii_lowercase p.0.now) p.1.now) }
+    ensures ok { IfOk result (λ p. IsNew section.entry.now (map named_view options.now.keys)
+        text.entry.now (str_to_ascii_lowercase p.0.now) p.1.now) }
     ensures err { IfErr result
-        (IsOptionFault section.now (map named_view options.now) text.entry.now) }
+        (IsOptionFault section.entry.now (map named_view options.now.keys) text.entry.now) }
 {
     let Some((key, value)) = cut_option(text) else {
         return Err(IniKind::NoDelimiter);
@@ -126,7 +95,7 @@ fn option_in<'a>(
 }
 
 /// The label of a line, or why it has none.
-pub(crate) fn label_at<'a>(place: &Place, line: &'a str) -> Result<Label<'a>, IniKind>
+pub(crate) fn label_at<'a>(place: &Place<'a>, line: &'a str) -> Result<Label<'a>, IniKind>
     ensures ok { IfOk result (λ l. Fits (place_view place.now) line.entry.now (label_view l)) }
     ensures err { IfErr result (IsFault (place_view place.now) line.entry.now) }
 {
@@ -147,7 +116,7 @@ pub(crate) fn label_at<'a>(place: &Place, line: &'a str) -> Result<Label<'a>, In
     let Some(section) = place.section else {
         return Err(IniKind::NoSection);
     };
-    match option_in(place.options.as_slice(), section, text) {
+    match option_in(&place.options, section, text) {
         Ok((key, value)) => Ok(Label::Setting(key, value)),
         Err(kind) => Err(kind),
     }
@@ -159,20 +128,20 @@ pub(crate) fn after_label<'a>(
     line: &str,
     label: Label<'a>,
 ) -> Result<Place<'a>, NoMemory>
-    ensures { IfOk result (λ p. place_view p
-        ≡ after (place_view place.entry) line.now (label_view label.entry)) }
+    ensures { IfOk result (λ p. IsLike
+        (after (place_view place.entry) line.now (label_view label.entry)) (place_view p)) }
 {
     match label {
         Label::Quiet | Label::More(_) => {}
         Label::Header(name) => {
-            place.headers.push(name)?;
+            place.headers.insert(name)?;
             place.section = Some(name);
             place.in_option = false;
             place.level = indent_of(line);
         }
         Label::Setting(key, _) => {
             let section = place.section.unwrap_or("");
-            place.options.push(Name { section, key })?;
+            place.options.insert(Name { section, key })?;
             place.in_option = true;
             place.level = indent_of(line);
         }

@@ -12,6 +12,7 @@ mod ini;
 mod labels;
 mod laws;
 mod lines;
+mod names;
 mod overrides;
 mod parts;
 mod read;

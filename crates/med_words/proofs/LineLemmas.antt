@@ -1,5 +1,5 @@
 -- Which values stand on a line, by its command word.
-use Rattle.std.proofs.Common.{◌≡◌, ◌∙◌, ◌&&◌, ◌||◌, Bool, true, false, not, true≢false, refl, sym, ap, List, [], ◌∷◌, Option, Some, None, codes, is_some}
+use Rattle.std.proofs.Common.{◌≡◌, ◌∙◌, ◌&&◌, ◌||◌, Bool, true, false, not, true≢false, refl, sym, ap, List, [], ◌∷◌, Option, Some, None, codes, filter, is_some, map}
 use Rattle.std.specs.List.{list_all, list_any, AllByRecursion}
 use Rattle.std.specs.Str.{bytes_eq}
 use Rattle.std.proofs.lemmas.Bool.{and_parts, not-true}
@@ -13,17 +13,14 @@ use Rattle.med_words.proofs.OwnLemmas.{of_row, needs, needed_value, no_value}
 use Rattle.med_base.proofs.Bools.{or_right, or_left, same_bytes, bytes_same}
 
 -- the commands that take the name of a backup, and the others
+abbrev takes_name : Row → Bool
+takes_name c = has_valued (codes "backup-name") c.1
+
 abbrev pub with_names : List Text
-with_names =
-    codes "backup" ∷ codes "backup-cluster" ∷ codes "delete-backup" ∷ codes "download"
-    ∷ codes "fetch-tokenmap" ∷ codes "restore-cluster" ∷ codes "restore-node" ∷ codes "status"
-    ∷ codes "verify" ∷ []
+with_names = map (λ (c : Row). c.0) (filter takes_name commands)
 
 abbrev pub without_names : List Text
-without_names =
-    codes "build-index" ∷ codes "get-last-complete-cluster-backup" ∷ codes "list-backups"
-    ∷ codes "purge" ∷ codes "purge-decommissioned" ∷ codes "report-last-backup" ∷ codes "jobs"
-    ∷ codes "rehearse" ∷ []
+without_names = map (λ (c : Row). c.0) (filter (λ c. not (takes_name c)) commands)
 
 -- whether the command of this word needs the option
 abbrev asks : Text → Text → Row → Bool

@@ -1,4 +1,4 @@
-use Rattle.std.proofs.Common.{◌∙◌, refl, sym, ap, codes, is_some, None}
+use Rattle.std.proofs.Common.{◌∙◌, refl, sym, ap, codes, is_some, rules, None}
 use Rattle.med_words.specs.Said.{Said}
 use Rattle.med_words.specs.Values.{read_name, given_or}
 use Rattle.med_words.proofs.OwnLemmas.{some_mapped}
@@ -26,19 +26,5 @@ unreachable-requires c =
     let line = c.requires.line in
     let nots = c.in_default in
     named line.0 c.args.line.now line.1 c.args.name read_name
-    (ap (λ (s : Said). given_or None read_name s.name) (sym line.1.own_is) ∙ c.requires.name) (
-      nots.not-backup,
-      (
-        nots.not-text,
-        (
-          nots.not-text-2,
-          (
-            nots.not-download,
-            (
-              nots.not-text-3,
-              (nots.not-text-4, (nots.not-text-5, (nots.not-status, (nots.not-verify, tt)))),
-            ),
-          ),
-        ),
-      ),
-    )
+    (ap (λ (s : Said). given_or None read_name s.name) (sym line.1.own_is) ∙ c.requires.name)
+    (search (rules, nots))

@@ -1,4 +1,4 @@
-use Rattle.std.proofs.Common.{◌∙◌, refl, sym, ap, codes, is_some}
+use Rattle.std.proofs.Common.{◌∙◌, refl, sym, ap, codes, is_some, rules}
 use Rattle.med_words.specs.Said.{Said}
 use Rattle.med_words.specs.Values.{read_rounds}
 use Rattle.med_words.proofs.OwnLemmas.{some_mapped, some_read}
@@ -26,19 +26,4 @@ unreachable-requires c =
     let line = c.requires.line in
     let nots = c.in_default in
     unnamed line.0 c.args.line.now line.1
-    (ap (λ (s : Said). s.name) (sym line.1.own_is) ∙ c.requires.name) (
-      nots.not-text,
-      (
-        nots.not-text-2,
-        (
-          nots.not-text-3,
-          (
-            nots.not-purge,
-            (
-              nots.not-text-4,
-              (nots.not-text-5, (nots.not-jobs, (nots.not-rehearse, tt))),
-            ),
-          ),
-        ),
-      ),
-    )
+    (ap (λ (s : Said). s.name) (sym line.1.own_is) ∙ c.requires.name) (search (rules, nots))
