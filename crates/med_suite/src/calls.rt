@@ -1,23 +1,32 @@
 // Public calls by themselves, and want of memory.
-use crate::said::{BACKUP, INI, LINE, NODES, OBJECTS, Said, config, nodes, objects, say, words};
+use crate::said::{
+    BACKUP, INI, LINE, NODES, OBJECTS, after, append_objects, append_said, files, nodes, seen,
+    with_ini, with_names, words,
+};
 use med_backup::walk;
-use med_base::{Fqdn, NoMemory};
+use med_base::{FileKey, Fqdn, NoMemory};
 use med_commands::{run_command, tell_no_memory};
-use med_mem::{MemSink, MemStore};
+use med_mem::{MemFiles, MemNodes, MemOpened, MemSink, MemStore};
 use med_outside::Nodes;
-use med_words::read_words;
+use med_words::{Request, read_words};
 use std::alloc::Global;
 
-// The first backup, where an allocation may fail: all of it, or the first puts and status 20.
+// Whether a text of what was seen is the first backup, or its first puts and status 20.
+fn is_done_or_without_memory(seen: &str) -> bool {
+    let refused = "medusa: out of memory\n";
+    for objects in &OBJECTS {
+        if after(seen, &["20", "", refused, *objects]) == Some("") {
+            return true;
+        }
+    }
+    after(seen, &["0", LINE, "", OBJECTS[3]]) == Some("")
+}
+
+// The first backup, where an allocation may fail.
 fn first_backup_or_no_memory(alloc: Global) -> Result<bool, NoMemory> {
-    let mut store = MemStore::new(alloc, 1000, 0);
-    let mut nodes = nodes(alloc, &["nb-1-big-Data.db"])?;
-    let said = say(alloc, &BACKUP, &mut store, &mut nodes, 1000)?;
-    let held = objects(alloc, &store)?;
-    let held = held.as_str();
-    let is_done = said.is(0, LINE, "") && held == OBJECTS[3];
-    let is_refused = said.is(20, "", "medusa: out of memory\n") && OBJECTS.contains(&held);
-    Ok(is_done || is_refused)
+    let words = words(alloc, BACKUP)?;
+    let seen = seen(alloc, words.as_slice(), &with_ini(INI))?;
+    Ok(is_done_or_without_memory(seen.as_str()))
 }
 
 // With ample memory `one_file_is_backed_up_and_its_name_is_taken` of rows.rt says the same and
@@ -30,24 +39,40 @@ fn want_of_memory_leaves_the_first_puts(rt: HostRuntime) {
     }
 }
 
+fn append_key(alloc: Global, text: &mut String, key: &FileKey) -> Result<(), NoMemory> {
+    let (keyspace, table) = (key.keyspace.as_str(), key.table.as_str());
+    let file = key.file.as_str();
+    text.push_str(format!(in alloc; "{keyspace} {table} {file};")?.as_str())?;
+    Ok(())
+}
+
 // The keys of a snapshot, walked by the call itself.
-fn walked(alloc: Global) -> Result<String, NoMemory> {
-    let mut nodes = nodes(alloc, &["b", "a"])?;
-    let mut text = String::new(alloc);
+fn append_walk(alloc: Global, text: &mut String, snap: &mut MemOpened) -> Result<(), NoMemory> {
+    let Ok(keys) = walk(alloc, snap) else {
+        return Err(NoMemory);
+    };
+    for key in &keys {
+        append_key(alloc, text, key)?;
+    }
+    Ok(())
+}
+
+fn append_keys(alloc: Global, text: &mut String, nodes: &mut MemNodes) -> Result<(), NoMemory> {
     let Ok(node) = Fqdn::read(alloc, "n1") else {
         return Err(NoMemory);
     };
     let Ok(mut snap) = nodes.open(alloc, NODES, &node, "medusa-b1") else {
         return Err(NoMemory);
     };
-    if let Ok(keys) = walk(alloc, &mut snap) {
-        for key in &keys {
-            let (keyspace, table) = (key.keyspace.as_str(), key.table.as_str());
-            let file = key.file.as_str();
-            text.push_str(format!(in alloc; "{keyspace} {table} {file};")?.as_str())?;
-        }
-    }
+    let answer = append_walk(alloc, text, &mut snap);
     nodes.close(snap);
+    answer
+}
+
+fn walked(alloc: Global) -> Result<String, NoMemory> {
+    let mut text = String::new(alloc);
+    let mut nodes = nodes(alloc, &with_names(["b", "a"].as_slice()))?;
+    append_keys(alloc, &mut text, &mut nodes)?;
     Ok(text)
 }
 
@@ -60,37 +85,74 @@ fn a_walk_gives_the_keys_in_order(rt: HostRuntime) {
     assert!(rt; is_walked);
 }
 
-// The first backup, by the call that takes a request.
-fn requested(alloc: Global) -> Result<bool, NoMemory> {
-    let mut store = MemStore::new(alloc, 1000, 0);
-    let mut nodes = nodes(alloc, &["nb-1-big-Data.db"])?;
-    let mut files = config(alloc, INI)?;
-    let words = words(alloc, &BACKUP)?;
+// The call that takes a request, of which no more is known here than that it ends.
+fn status_of_request(
+    alloc: Global,
+    request: &Request,
+    files: &mut MemFiles,
+    store: &mut MemStore,
+    nodes: &mut MemNodes,
+    out: &mut MemSink,
+    err: &mut MemSink,
+) -> u8 {
+    run_command(alloc, request, files, store, nodes, out, err)
+}
+
+fn append_answer(
+    alloc: Global,
+    text: &mut String,
+    request: &Request,
+    files: &mut MemFiles,
+    store: &mut MemStore,
+    nodes: &mut MemNodes,
+) -> Result<(), NoMemory> {
     let mut out = MemSink::new(alloc, 1000)?;
     let mut err = MemSink::new(alloc, 1000)?;
-    let Ok(request) = read_words(alloc, words.as_slice()) else {
-        return Ok(false);
-    };
-    let status = run_command(
-        alloc, &request, &mut files, &mut store, &mut nodes, &mut out, &mut err,
-    );
-    let said = Said { status, out, err };
-    Ok(said.is(0, LINE, "") && objects(alloc, &store)?.as_str() == OBJECTS[3])
+    let status = status_of_request(alloc, request, files, store, nodes, &mut out, &mut err);
+    append_said(alloc, text, status, &out, &err)
+}
+
+// What is seen of a request over the scene of the first backup.
+fn append_request(alloc: Global, text: &mut String, request: &Request) -> Result<(), NoMemory> {
+    let scene = with_ini(INI);
+    let mut files = files(alloc, &scene)?;
+    let mut store = MemStore::new(alloc, 1000, 0);
+    let mut nodes = nodes(alloc, &scene)?;
+    append_answer(alloc, text, request, &mut files, &mut store, &mut nodes)?;
+    append_objects(alloc, text, &store)
+}
+
+fn append_request_of(alloc: Global, text: &mut String, line: &str) -> Result<(), NoMemory> {
+    let words = words(alloc, line)?;
+    match read_words(alloc, words.as_slice()) {
+        Ok(request) => append_request(alloc, text, &request),
+        Err(_) => Ok(()),
+    }
+}
+
+// The first backup, by the call that takes a request.
+fn is_requested(alloc: Global) -> Result<bool, NoMemory> {
+    let mut text = String::new(alloc);
+    append_request_of(alloc, &mut text, BACKUP)?;
+    Ok(after(text.as_str(), &["0", LINE, "", OBJECTS[3]]) == Some(""))
 }
 
 #[test]
 fn a_request_is_run(rt: HostRuntime) {
-    assert_eq!(rt; requested(rt.alloc()), Ok(true));
+    assert_eq!(rt; is_requested(rt.alloc()), Ok(true));
 }
 
-fn told_no_memory(alloc: Global) -> Result<bool, NoMemory> {
+fn told_no_memory(alloc: Global, text: &mut String) -> Result<(), NoMemory> {
     let mut err = MemSink::new(alloc, 1000)?;
     let status = tell_no_memory(&mut err);
     let out = MemSink::new(alloc, 0)?;
-    Ok(Said { status, out, err }.is(20, "", "medusa: out of memory\n"))
+    append_said(alloc, text, status, &out, &err)
 }
 
 #[test]
 fn want_of_memory_for_the_words_is_told(rt: HostRuntime) {
-    assert_eq!(rt; told_no_memory(rt.alloc()), Ok(true));
+    let alloc = rt.alloc();
+    let mut text = String::new(alloc);
+    assert_eq!(rt; told_no_memory(alloc, &mut text), Ok(()));
+    assert_eq!(rt; text.as_str(), "20||medusa: out of memory\n|");
 }

@@ -1,96 +1,101 @@
 // The worked rows of a backup.
-use crate::said::{BACKUP, LINE, OBJECTS, nodes, objects, say};
+use crate::said::{
+    BACKUP, INI, LINE, OBJECTS, after, append_run, is_seen, nodes, nothing, with_ini, with_names,
+    words,
+};
 use med_base::NoMemory;
 use med_mem::{MemNodes, MemStore};
 use std::alloc::Global;
-use std::test::Fail;
 
-fn first_backup(alloc: Global) -> Result<[bool; 3], NoMemory> {
+// What is seen of the first backup, and then of the same words over what it left.
+fn append_two(
+    alloc: Global,
+    text: &mut String,
+    store: &mut MemStore,
+    nodes: &mut MemNodes,
+) -> Result<(), NoMemory> {
+    let words = words(alloc, BACKUP)?;
+    let scene = with_ini(INI);
+    append_run(alloc, text, words.as_slice(), &scene, store, nodes)?;
+    append_run(alloc, text, words.as_slice(), &scene, store, nodes)
+}
+
+fn seen_twice(alloc: Global) -> Result<String, NoMemory> {
+    let mut text = String::new(alloc);
     let mut store = MemStore::new(alloc, 1000, 0);
-    let mut nodes = nodes(alloc, &["nb-1-big-Data.db"])?;
-    let first = say(alloc, &BACKUP, &mut store, &mut nodes, 1000)?;
-    let held = objects(alloc, &store)?;
-    let again = say(alloc, &BACKUP, &mut store, &mut nodes, 1000)?;
+    let mut nodes = nodes(alloc, &with_ini(INI))?;
+    append_two(alloc, &mut text, &mut store, &mut nodes)?;
+    Ok(text)
+}
+
+fn is_taken(alloc: Global) -> Result<bool, NoMemory> {
+    let seen = seen_twice(alloc)?;
+    let first = ["0", LINE, "", OBJECTS[3]];
     let taken = "medusa: name b1 is taken by n1/b1/data/ks/t-1/nb-1-big-Data.db\n";
-    Ok([
-        first.is(0, LINE, ""),
-        held.as_str() == OBJECTS[3],
-        again.is(5, "", taken) && objects(alloc, &store)?.as_str() == held.as_str(),
-    ])
+    let again = ["5", "", taken, OBJECTS[3]];
+    let Some(rest) = after(seen.as_str(), &first) else {
+        return Ok(false);
+    };
+    Ok(after(rest, &again) == Some(""))
 }
 
 #[test]
 fn one_file_is_backed_up_and_its_name_is_taken(rt: HostRuntime) {
-    assert_eq!(rt; first_backup(rt.alloc()), Ok([true, true, true]));
+    assert_eq!(rt; is_taken(rt.alloc()), Ok(true));
 }
 
-// The answer over a snapshot with files of these names, and whether the bucket stays empty.
-fn over_names(alloc: Global, names: &[&str], err: &str) -> Result<bool, NoMemory> {
-    let mut store = MemStore::new(alloc, 1000, 0);
-    let mut nodes = nodes(alloc, names)?;
-    let said = say(alloc, &BACKUP, &mut store, &mut nodes, 1000)?;
-    Ok(said.is(11, "", err) && store.content(alloc)?.is_empty())
+// Whether a snapshot with files of these names is refused so, and the bucket stays empty.
+fn is_refused(alloc: Global, names: &[&str], err: &str) -> Result<bool, NoMemory> {
+    is_seen(alloc, BACKUP, &with_names(names), &["11", "", err, ""])
 }
 
 #[test]
 fn a_snapshot_without_names_of_files_is_refused(rt: HostRuntime) {
     let alloc = rt.alloc();
-    for (names, err) in [
-        ([].as_slice(), "medusa: no snapshot medusa-b1\n"),
-        (
-            ["a", "b/c", "d\n"].as_slice(),
-            "medusa: bad file name at 1\n",
-        ),
-        (["."].as_slice(), "medusa: bad file name at 0\n"),
-    ] {
-        assert_eq!(rt; over_names(alloc, names, err), Ok(true));
-    }
-}
-
-fn no_snapshot(alloc: Global) -> Result<bool, NoMemory> {
-    let mut store = MemStore::new(alloc, 1000, 0);
-    let mut nodes = MemNodes::new(alloc);
-    let said = say(alloc, &BACKUP, &mut store, &mut nodes, 1000)?;
-    Ok(said.is(11, "", "medusa: no snapshot medusa-b1\n") && store.content(alloc)?.is_empty())
+    let none = "medusa: no snapshot medusa-b1\n";
+    assert_eq!(rt; is_refused(alloc, [].as_slice(), none), Ok(true));
+    let names = ["a", "b/c", "d\n"];
+    let bad = "medusa: bad file name at 1\n";
+    assert_eq!(rt; is_refused(alloc, names.as_slice(), bad), Ok(true));
+    let bad = "medusa: bad file name at 0\n";
+    assert_eq!(rt; is_refused(alloc, ["."].as_slice(), bad), Ok(true));
 }
 
 #[test]
 fn a_node_without_a_snapshot_is_refused(rt: HostRuntime) {
-    assert_eq!(rt; no_snapshot(rt.alloc()), Ok(true));
-}
-
-fn short_sink(alloc: Global) -> Result<[bool; 2], NoMemory> {
-    let mut store = MemStore::new(alloc, 1000, 0);
-    let mut nodes = nodes(alloc, &["nb-1-big-Data.db"])?;
-    let said = say(alloc, &BACKUP, &mut store, &mut nodes, 5)?;
-    Ok([
-        said.is(10, "backu", "medusa: write fault\n"),
-        store.content(alloc)?.len() == 3,
-    ])
+    let mut scene = nothing();
+    scene.ini = Some(INI);
+    let none = "medusa: no snapshot medusa-b1\n";
+    assert_eq!(rt;
+        is_seen(rt.alloc(), BACKUP, &scene, &["11", "", none, ""]),
+        Ok(true)
+    );
 }
 
 #[test]
 fn a_line_that_breaks_off_leaves_the_backup(rt: HostRuntime) {
-    assert_eq!(rt; short_sink(rt.alloc()), Ok([true, true]));
+    let mut scene = with_ini(INI);
+    scene.limit = 5;
+    let parts = ["10", "backu", "medusa: write fault\n", OBJECTS[3]];
+    assert_eq!(rt; is_seen(rt.alloc(), BACKUP, &scene, &parts), Ok(true));
 }
 
-fn two_files(alloc: Global) -> Result<bool, NoMemory> {
-    let mut store = MemStore::new(alloc, 1000, 1);
-    let mut nodes = nodes(alloc, &["b", "a"])?;
-    let said = say(alloc, &BACKUP, &mut store, &mut nodes, 1000)?;
-    let line = "backup b1 of n1: 2 files, 6 bytes, 0 reused, 2 stored, 0 aside\n";
-    let mut seconds = [0; 4];
-    for (i, object) in store.content(alloc)?.iter().enumerate() {
-        if i < 4 {
-            seconds[i] = object.second;
-        }
-    }
-    // in byte order: the files a and b, the manifest, the schema
-    Ok(said.is(0, line, "") && seconds == [1001, 1002, 1003, 1000])
-}
+// The files a and b, the manifest and the schema, which is put first.
+const TWO: &str = "n1/b1/data/ks/t-1/a 1001 abc\nn1/b1/data/ks/t-1/b 1002 abc\n\
+    n1/b1/meta/manifest.json 1003 \
+    [{\"columnfamily\":\"t-1\",\"keyspace\":\"ks\",\"objects\":[{\"MD5\":\
+    \"900150983cd24fb0d6963f7d28e17f72\",\"path\":\"n1/b1/data/ks/t-1/a\",\"size\":3},{\"MD5\":\
+    \"900150983cd24fb0d6963f7d28e17f72\",\"path\":\"n1/b1/data/ks/t-1/b\",\"size\":3}]}]\n\
+    n1/b1/meta/schema.cql 1000 -- s\n\n";
 
 #[test]
-fn files_are_put_in_order_and_the_manifest_last(rt: HostRuntime) -> Result<(), Fail> {
-    assert_eq!(rt; two_files(rt.alloc()), Ok(true));
-    Ok(())
+fn files_are_put_in_order_and_the_manifest_last(rt: HostRuntime) {
+    let names = ["b", "a"];
+    let mut scene = with_names(names.as_slice());
+    scene.tick = 1;
+    let line = "backup b1 of n1: 2 files, 6 bytes, 0 reused, 2 stored, 0 aside\n";
+    assert_eq!(rt;
+        is_seen(rt.alloc(), BACKUP, &scene, &["0", line, "", TWO]),
+        Ok(true)
+    );
 }
