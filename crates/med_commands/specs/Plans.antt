@@ -63,7 +63,9 @@ IsSilent a b = b.out ≡ a.out
 
 -- neither the storage nor the nodes were asked anything, and nothing was printed
 abbrev pub IsUntouched : World → World → Type 0
-IsUntouched a b = ChangesWithin [] a.store b.store a.stood b.stood × (b.nodes ≡ a.nodes) × IsSilent a b
+IsUntouched a b =
+    (b.store ≡ a.store) × ChangesWithin [] a.store b.store a.stood b.stood × (b.nodes ≡ a.nodes)
+    × IsSilent a b
 
 -- nothing was asked at all
 abbrev pub IsUnasked : World → World → Type 0

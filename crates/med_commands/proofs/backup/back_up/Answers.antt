@@ -20,7 +20,7 @@ returns-in-Err-clause-ends g c =
     (g.S.Storage.state c.args.store.now) (g.S.Storage.stood_since c.args.store.now)
     (g.O.Sink.state c.args.out.now)) in
     asked_plan (asked_of c.args.request.now) c.args.name.now a a (Err (Failed Memory)) c.requires
-    (inl ((inr (inl refl), tt), (moves_at_rest a.store a.stood, refl, refl)))
+    (inl ((inr (inl refl), tt), (refl, moves_at_rest a.store a.stood, refl, refl)))
 
 pub returns-in-Err-load-clause-ends : goal.returns-in-Err-load-clause-ends
 returns-in-Err-load-clause-ends g c =
@@ -36,7 +36,7 @@ returns-in-Err-load-clause-ends g c =
     (inl (
       load_stop a.files.contents (asked_of c.args.request.now) (rose_of a b) a.files.faults
           b.files.faults (λ h. h) tt c.in-Err-load.error c.in-Err-load.ensures.err,
-      (moves_at_rest a.store a.stood, refl, refl),
+      (refl, moves_at_rest a.store a.stood, refl, refl),
     )))
 
 pub returns-in-Err-backup_node-clause-ends : goal.returns-in-Err-backup_node-clause-ends

@@ -51,7 +51,7 @@ returns-in-Err-Usage g c =
         rw c.in-Err-Usage.field-0-is at c.in-Err-Usage.ensures.refused,
         refl,
       ),
-      ((moves_at_rest a.store a.stood, refl, refl), refl),
+      ((refl, moves_at_rest a.store a.stood, refl, refl), refl),
     ) in
     record {
       answer = record {
@@ -73,7 +73,7 @@ returns-in-Err-Memory g c =
     let words = map string_bytes c.args.words.now in
     let end : End = Err (Failed Memory) in
     let ends : Ends (rose_of a a) says (words_plan words a a) end =
-    inl ((inl refl, tt), ((moves_at_rest a.store a.stood, refl, refl), refl)) in
+    inl ((inl refl, tt), ((refl, moves_at_rest a.store a.stood, refl, refl), refl)) in
     record {
       answer = record {
         end = end;
