@@ -51,7 +51,8 @@ made_later s0 s1 s2 p0 p1 p2 first made (xs, is, moves) =
     (xs, is, moves_on [] xs s0 s1 s2 p0 p1 p2 first moves)
 
 -- what is left over a bucket that was opened first
-pub left_later : (node_config : NodeConfig) (n : List ℕ) (nodes nodes_now : NodesState) (s0 s1 s2 : State)
+pub left_later : (node_config : NodeConfig) (n : List ℕ) (nodes nodes_now : NodesState)
+    (s0 s1 s2 : State)
     (p0 p1 p2 : History) → ChangesWithin [] (opened_at node_config s0) s1 p0 p1 → (left : Left)
     → LeavesOpen node_config n nodes nodes_now s1 s2 p1 p2 left
     → LeavesNode node_config n nodes nodes_now s0 s2 p0 p2 left

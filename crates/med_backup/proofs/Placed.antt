@@ -41,7 +41,8 @@ key_at (Some s) keys i key lt is all = all_at (λ k. HasKey k s) keys i key lt i
 module _ (before f n : List ℕ) (held : Option Snapshot) where
   -- nothing was placed
   pub none_placed : (keys : List FileKey) (old new : State) (stood_before stood_after : History)
-      → ChangesWithin [] old new stood_before stood_after → PlacesSome before f n held keys old new stood_before stood_after
+      → ChangesWithin [] old new stood_before stood_after → PlacesSome before f n held keys old new
+          stood_before stood_after
   none_placed keys old new stood_before stood_after moves = record {
     first = [];
     rest = keys;
@@ -58,7 +59,8 @@ module _ (before f n : List ℕ) (held : Option Snapshot) where
     copies = record { key = key; bytes = bytes; second = at } ∷ [];
     keys_are = refl;
     bytes_are = one_of held (record { key = key; bytes = bytes; second = at }) of;
-    moves = subst (λ (p : List ℕ). ChangesWithin (Stores p bytes at ∷ []) old new stood_before stood_after) path_is moves;
+    moves = subst (λ (p : List ℕ). ChangesWithin (Stores p bytes at ∷ []) old new stood_before
+        stood_after) path_is moves;
   }
 
   -- one file was placed and recorded
@@ -70,7 +72,8 @@ module _ (before f n : List ℕ) (held : Option Snapshot) where
       → PlacesOne before f n held key old new stood_before stood_after
       (record { key = k; path = path; fingerprint = print })
   unfolding one_copied
-  one_placed key k path bytes print at old new stood_before stood_after key_is path_is print_is of moves =
+  one_placed key k path bytes print at old new stood_before stood_after key_is path_is print_is of
+      moves =
       record {
         places = one_copied key path bytes at old new stood_before stood_after path_is of moves;
         files_are = λ i. record { key = key_is i; path = path_is i; fingerprint = print_is i } ∷ [];
@@ -82,7 +85,8 @@ module _ (before f n : List ℕ) (held : Option Snapshot) where
       → path ≡ own_path before f n key → IfSome held (λ s. get s.files key ≡ Some bytes)
       → MayPut path bytes old new stood_before stood_after
       → PlacesSome before f n held (key ∷ []) old new stood_before stood_after
-  maybe_placed key path bytes old new stood_before stood_after path_is of (inl looks) = none_placed (key ∷ []) old
+  maybe_placed key path bytes old new stood_before stood_after path_is of (inl looks) = none_placed
+      (key ∷ []) old
       new stood_before stood_after looks.moves
   maybe_placed key path bytes old new stood_before stood_after path_is of (inr (at, put)) = record {
     first = key ∷ [];
@@ -139,7 +143,8 @@ module _ (before f n : List ℕ) (held : Option Snapshot) where
     places = a;
   }
 
-  pub nothing_placed : (old : State) (stood_before : History) → ChangesWithin [] old old stood_before stood_before
+  pub nothing_placed : (old : State) (stood_before : History)
+      → ChangesWithin [] old old stood_before stood_before
       → PlacesAll before f n held [] old old stood_before stood_before []
   nothing_placed old stood_before moves = record {
     places = record { copies = []; keys_are = refl; bytes_are = none_of held; moves = moves };

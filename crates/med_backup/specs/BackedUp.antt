@@ -41,7 +41,8 @@ pub record IsCopied (before f n : List ℕ) (held : Option Snapshot) (order : Li
   pub bytes_are : AreOf held copies
   pub files_are : files ≡ records_of before f n copies
   pub manifest_is : IsManifest before f n (manifest_text files) files
-  pub moves : ChangesWithin (backup_puts before f n schema at copies end) old new stood_before stood_after
+  pub moves : ChangesWithin (backup_puts before f n schema at copies end) old new stood_before
+      stood_after
 
 -- the backup was made of all that was found
 pub record IsBackedUpFrom (before f n : List ℕ) (held : Option Snapshot) (old new : State)

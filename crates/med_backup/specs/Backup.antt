@@ -50,7 +50,8 @@ paths_of before f n files =
 
 -- The backup is finished and whole, its manifest is the canonical text of these files, its objects
 -- are new, and all others stand as before.
-pub record FinishesBackup (before f n : List ℕ) (old new : Content) (files : List FileRecord) : Type 0
+pub record FinishesBackup (before f n : List ℕ) (old new : Content) (files : List FileRecord) : Type
+    0
   where
     pub whole : IsWhole before f n new
     pub text : HoldsBytes new (meta_path before f n Manifest) (manifest_text files)

@@ -45,7 +45,8 @@ pub record PlacesAll (before f n : List ℕ) (held : Option Snapshot) (keys : Li
 -- one file was placed
 abbrev pub PlacesOne : (before f n : List ℕ) → Option Snapshot → FileKey → (old new : State)
     → (stood_before stood_after : History) → FileRecord → Type 0
-PlacesOne before f n held key old new stood_before stood_after r = PlacesAll before f n held (key ∷ []) old new
+PlacesOne before f n held key old new stood_before stood_after r = PlacesAll before f n held
+    (key ∷ []) old new
     stood_before stood_after (r ∷ [])
 
 -- the first of these files were placed, or none; the last put may have answered a failure
@@ -60,7 +61,8 @@ pub record PlacesSome (before f n : List ℕ) (held : Option Snapshot) (keys : L
 abbrev pub MayStore : List ℕ → List ℕ → (old new : State) → (stood_before stood_after : History)
     → Type 0
 MayStore path bytes old new stood_before stood_after =
-    ChangesWithin [] old new stood_before stood_after ⊎ ((at : ℕ) × ChangesWithin (Stores path bytes at ∷ []) old new stood_before stood_after)
+    ChangesWithin [] old new stood_before stood_after ⊎ ((at : ℕ)
+        × ChangesWithin (Stores path bytes at ∷ []) old new stood_before stood_after)
 
 -- one object was put
 abbrev pub StoresOne : List ℕ → List ℕ → (old new : State) → (stood_before stood_after : History)

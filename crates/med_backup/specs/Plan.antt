@@ -153,20 +153,24 @@ pub data Left : Type 1 where
   Worked : ChangeLists → Left
 
 -- the work on a node whose bucket is open
-abbrev pub opened_plan : NodeConfig → List ℕ → Snapshots → Option Content → Plan Left (List FileRecord)
+abbrev pub opened_plan : NodeConfig → List ℕ → Snapshots → Option Content
+    → Plan Left (List FileRecord)
 opened_plan node_config n snaps told =
     step {T = Unit {0}} Passed on_nodes Opened (λ _. said_as Worked
     (snapshot_plan node_config.before node_config.node n (snap_at snaps node_config n) told))
 
-abbrev pub node_plan : NodeConfig → List ℕ → Snapshots → Option Content → Plan Left (List FileRecord)
+abbrev pub node_plan : NodeConfig → List ℕ → Snapshots → Option Content
+    → Plan Left (List FileRecord)
 node_plan node_config n snaps told =
     step {T = Unit {0}} Passed on_storage Unopened (λ _. opened_plan node_config n snaps told)
 
 -- ---- what the words mean
 
 -- one of these lists of changes was made, and nothing else
-abbrev pub IsMadeBy : (old new : State) → (stood_before stood_after : History) → ChangeLists → Type 0
-IsMadeBy old new stood_before stood_after made = (xs : List Effect) × made xs × ChangesWithin xs old new stood_before stood_after
+abbrev pub IsMadeBy : (old new : State) → (stood_before stood_after : History) → ChangeLists
+    → Type 0
+IsMadeBy old new stood_before stood_after made = (xs : List Effect) × made xs
+    × ChangesWithin xs old new stood_before stood_after
 
 -- what is opened for the backup
 abbrev pub tagged_at : NodeConfig → List ℕ → Tagged
@@ -188,9 +192,11 @@ abbrev pub LeavesNode : NodeConfig → List ℕ → (nodes nodes_now : NodesStat
 LeavesNode node_config n nodes nodes_now old new stood_before stood_after Unopened =
     ChangesWithin [] old new stood_before stood_after × (nodes_now.counts ≡ nodes.counts)
 LeavesNode node_config n nodes nodes_now old new stood_before stood_after Opened =
-    LeavesOpen node_config n nodes nodes_now (opened_at node_config old) new stood_before stood_after Opened
+    LeavesOpen node_config n nodes nodes_now (opened_at node_config old) new stood_before
+        stood_after Opened
 LeavesNode node_config n nodes nodes_now old new stood_before stood_after (Worked made) =
-    LeavesOpen node_config n nodes nodes_now (opened_at node_config old) new stood_before stood_after (Worked made)
+    LeavesOpen node_config n nodes nodes_now (opened_at node_config old) new stood_before
+        stood_after (Worked made)
 
 -- ---- the errors of the code
 

@@ -1,5 +1,5 @@
 -- The prefix of a layout: components joined by slashes, or nothing, in at most 512 bytes.
-use Rattle.std.specs.Prelude.{ℕ, Bool, ◌||◌, ◌==◌, ◌+◌, nat_lt, List, [], ◌∷◌, ◌++◌, Option, Some, None, is_some, min, length, codes, if◌then◌else◌}
+use Rattle.std.specs.Prelude.{ℕ, Bool, ◌||◌, ◌+◌, nat_lt, List, [], ◌∷◌, ◌++◌, Option, Some, None, is_some, min, length, codes, if◌then◌else◌}
 use Rattle.med_base.specs.Cut.{pieces_of}
 use Rattle.med_base.specs.Names.{component_fault, begins_with_dot}
 

@@ -52,7 +52,8 @@ same_node_config : (a b c d n m k l r s : List ℕ) → a ≡ b → c ≡ d → 
 same_node_config a b c d n m k l r s base bucket before node root =
     rw (base, bucket, before, node, root) refl
 
-node_config_read : (t : Texts) (c d : Config) → IsRead t c → IsRead t d → node_config_of c ≡ node_config_of d
+node_config_read : (t : Texts) (c d : Config) → IsRead t c → IsRead t d → node_config_of c
+    ≡ node_config_of d
 node_config_read t c d f g =
     same_node_config (string_bytes c.base) (string_bytes d.base) (string_bytes c.bucket)
     (string_bytes d.bucket) c.layout d.layout c.node d.node (string_bytes c.nodes_root)

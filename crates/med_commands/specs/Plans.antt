@@ -78,7 +78,8 @@ IfTold old new P = IfSome old (λ c. IfSome new (λ d. P c d))
 -- The backup of the name is finished and whole and is one of the snapshot, whose keys are names of
 -- files; the name was free, and nothing else changed. Exactly its puts were made, in the bucket of
 -- the config file, which was opened for it, and exactly its snapshot was opened, and closed again.
-pub record IsDone (node_config : NodeConfig) (n : List ℕ) (a b : World) (files : List FileRecord) : Type 0 where
+pub record IsDone (node_config : NodeConfig) (n : List ℕ) (a b : World) (files : List FileRecord) :
+    Type 0 where
   pub finished : IfTold a.store.content b.store.content
       (λ c d. FinishesBackup node_config.before node_config.node n c d files)
   pub backup : IfTold a.store.content b.store.content
@@ -87,7 +88,8 @@ pub record IsDone (node_config : NodeConfig) (n : List ℕ) (a b : World) (files
   pub walked : IfSome (snap_at a.nodes.snaps node_config n) CanBeWalked
   pub was_free : IsFree node_config.before node_config.node n a.store.content
   pub snapshot : b.nodes.counts ≡ opened_once (tagged_at node_config n) a.nodes.counts
-  pub made : IsBackedUpFrom node_config.before node_config.node n (snap_at a.nodes.snaps node_config n)
+  pub made : IsBackedUpFrom node_config.before node_config.node n
+      (snap_at a.nodes.snaps node_config n)
       (opened_at node_config a.store) b.store a.stood b.stood files
 
 -- ---- plans
@@ -102,7 +104,8 @@ prints line done a b =
 abbrev pub backup_plan : Asked → List ℕ → (a b : World) → Plan (Type 0) (Unit {0})
 backup_plan asked n a b =
     step (ReadsConfig a.files.contents asked) on_files (IsUntouched a b) (λ node_config.
-    then (said_as (λ (left : Left). LeavesNode node_config n a.nodes b.nodes a.store b.store a.stood b.stood
+    then (said_as (λ (left : Left). LeavesNode node_config n a.nodes b.nodes a.store b.store a.stood
+        b.stood
     left × IsSilent a b) (node_plan node_config n a.nodes.snaps a.store.content)) (λ files.
     prints (report_line n node_config.node files) (IsDone node_config n a b files) a b))
 

@@ -1,6 +1,6 @@
 -- Laws of plans.
-use Rattle.std.proofs.Common.{◌≡◌, ◌∙◌, sym, ap, inl, inr, refl, subst, ℕ, List, [], ◌∷◌, Result, Ok, Err, OnErr, OnOk, MatchResult}
-use Rattle.med_outside.specs.Ends.{Device, Refusal, Stop, Refused, Failed, Plan, last, step, IsAmong, StopsAt, Steps, Ends, then, said_as, Leads, IsAsked, EndsAs, IsExact}
+use Rattle.std.proofs.Common.{◌≡◌, ◌∙◌, sym, inl, inr, refl, subst, List, Result, Ok, Err, OnErr, MatchResult}
+use Rattle.med_outside.specs.Ends.{Device, Refusal, Stop, Refused, Failed, Plan, last, step, StopsAt, Steps, Ends, then, said_as, Leads, EndsAs}
 
 ok_is : {T E : Type 0} (a b : T) → ◌≡◌ {A = Result T E} (Ok a) (Ok b) → a ≡ b
 ok_is a b e = cc

@@ -1,5 +1,5 @@
 -- Calls in a row: what they change together.
-use Rattle.std.proofs.Common.{◌≡◌, inl, inr, ℕ, List, [], ◌∷◌, ◌++◌, Option, Some, None, refl, sym, ap, ◌∙◌, arith, append_assoc}
+use Rattle.std.proofs.Common.{◌≡◌, inl, inr, List, [], ◌∷◌, ◌++◌, Option, Some, None, refl, sym, ap, ◌∙◌, arith, append_assoc}
 use Rattle.med_base.specs.Content.{Content}
 use Rattle.med_outside.specs.Effects.{Effect, made, applied, after_all, IsMoment}
 use Rattle.med_outside.specs.State.{State, OpenBucket, Changes, ChangesWithin, with_bucket, History}
@@ -52,11 +52,13 @@ passes_on xs ys s0 s1 s2 p0 p1 p2 a b = record {
     ]
     | inr m ↦ inr (moment_later xs ys s0.content s1.content c a.content m)
   ];
-  keeps = λ t c le stood_before. b.keeps t c (omega (arith, le, a.later)) (a.keeps t c le stood_before);
+  keeps = λ t c le stood_before. b.keeps t c (omega (arith, le, a.later))
+      (a.keeps t c le stood_before);
 }
 
 pub moves_on : (xs ys : List Effect) (s0 s1 s2 : State) (p0 p1 p2 : History)
-    → ChangesWithin xs s0 s1 p0 p1 → ChangesWithin ys s1 s2 p1 p2 → ChangesWithin (xs ++ ys) s0 s2 p0 p2
+    → ChangesWithin xs s0 s1 p0 p1 → ChangesWithin ys s1 s2 p1 p2
+    → ChangesWithin (xs ++ ys) s0 s2 p0 p2
 moves_on xs ys s0 s1 s2 p0 p1 p2 a b = record {
   passes = passes_on xs ys s0 s1 s2 p0 p1 p2 a.passes b.passes;
   bucket = b.bucket ∙ a.bucket;

@@ -32,7 +32,8 @@ pub record State : Type 0 where
 -- Exactly these changes were made, in order: the content is the old one with all of them, and
 -- what stood since an earlier step stood before, or is the old one with the first of them.
 -- Two histories: of what stood before, and of what stood after.
-pub record Changes (xs : List Effect) (old new : State) (stood_before stood_after : History) : Type 0
+pub record Changes (xs : List Effect) (old new : State) (stood_before stood_after : History) : Type
+    0
   where
     pub content : new.content ≡ after_all xs old.content
     pub told : is_some new.second ≡ is_some old.second
@@ -42,7 +43,8 @@ pub record Changes (xs : List Effect) (old new : State) (stood_before stood_afte
     pub keeps : (t : ℕ) (c : Content) → t ≤ old.step → stood_before t c → stood_after t c
 
 -- the same, and the bucket stays
-pub record ChangesWithin (xs : List Effect) (old new : State) (stood_before stood_after : History) : Type 0
+pub record ChangesWithin (xs : List Effect) (old new : State) (stood_before stood_after : History) :
+    Type 0
   where
     pub passes : Changes xs old new stood_before stood_after
     pub bucket : new.bucket ≡ old.bucket

@@ -27,4 +27,5 @@ pub record Put (path bytes : List ℕ) (old new : State) (stood_before stood_aft
 abbrev pub MayPut : List ℕ → List ℕ → (old new : State) → (stood_before stood_after : History)
     → Type 0
 MayPut path bytes old new stood_before stood_after =
-    OnlyReads old new stood_before stood_after ⊎ ((at : ℕ) × Put path bytes old new stood_before stood_after at)
+    OnlyReads old new stood_before stood_after ⊎ ((at : ℕ) × Put path bytes old new stood_before
+    stood_after at)

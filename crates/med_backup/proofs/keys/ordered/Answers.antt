@@ -13,7 +13,8 @@ loop-at-init c = record { entries_are = c.new-keys.ensures.empty ∙ sym nothing
 pub returns-in-Ok-None-clause-err : goal.returns-in-Ok-None-clause-err
 returns-in-Ok-None-clause-err c = record {
   key = key_of_raw c.index-raws-at.result;
-  stands = get_map key_of_raw c.args.raws.now c.loop-at.at c.index-raws-at.result c.loop-at-test.true
+  stands = get_map key_of_raw c.args.raws.now c.loop-at.at c.index-raws-at.result
+      c.loop-at-test.true
       c.index-raws-at.is;
   bad = rw c.in-Ok-None.field-0-is at c.in-Ok-None.ensures;
   before = c.loop-at.invariant.names;

@@ -17,7 +17,8 @@ returns-clause-snapshot g c =
     let counts : (g.N.Nodes.state c.close.new.self).counts ≡ opened_once
     (tagged c.as_str-root.result.now c.args.config.now.node c.as_str-2.result.now)
     (g.N.Nodes.state c.args.nodes.now).counts =
-    c.close.ensures.counts ∙ ap with_closed (c.open-opened.ensures.counts ∙ counts_of c.open-opened.result _ _ c.in_ok-snap.ensures.variant) in
+    c.close.ensures.counts ∙ ap with_closed (c.open-opened.ensures.counts
+        ∙ counts_of c.open-opened.result _ _ c.in_ok-snap.ensures.variant) in
     on_ok c.backup_snapshot-answer.result (rw (c.as_str-root.ensures.value, tag) at counts)
 
 pub returns-clause-ends : goal.returns-clause-ends
@@ -28,7 +29,8 @@ returns-clause-ends g c =
     let counts : (g.N.Nodes.state c.close.new.self).counts ≡ opened_once
     (tagged c.as_str-root.result.now c.args.config.now.node c.as_str-2.result.now)
     (g.N.Nodes.state c.args.nodes.now).counts =
-    c.close.ensures.counts ∙ ap with_closed (c.open-opened.ensures.counts ∙ counts_of c.open-opened.result _ _ c.in_ok-snap.ensures.variant) in
+    c.close.ensures.counts ∙ ap with_closed (c.open-opened.ensures.counts
+        ∙ counts_of c.open-opened.result _ _ c.in_ok-snap.ensures.variant) in
     let made = IsMadeBy (g.S.Storage.state c.args.store.now)
     (g.S.Storage.state c.backup_snapshot-answer.new.store)
     (g.S.Storage.stood_since c.args.store.now)
@@ -51,7 +53,8 @@ returns-clause-ends g c =
           (g.N.Snap.Snap.faults c.backup_snapshot-answer.new.snap)
           (g.S.Storage.state c.args.store.now).faults
           (g.S.Storage.state c.backup_snapshot-answer.new.store).faults
-          c.open-opened.ensures.cause.later (value_of _ _ c.open-opened.result c.in_ok-snap.snap c.in_ok-snap.ensures.variant
+          c.open-opened.ensures.cause.later (value_of _ _ c.open-opened.result c.in_ok-snap.snap
+              c.in_ok-snap.ensures.variant
           c.in_ok-snap.ensures.cases c.open-opened.ensures.fresh) c.close.ensures.faults)
           made
           (LeavesOpen node_config c.args.name.now (g.N.Nodes.state c.args.nodes.now)

@@ -1,4 +1,4 @@
-use Rattle.std.proofs.Common.{◌≡◌, ◌+◌, ℕ, suc, length, option_map}
+use Rattle.std.proofs.Common.{◌≡◌, ◌+◌, suc, length, option_map}
 use Rattle.std.specs.Option.{option_map_or, IfSome}
 use Rattle.med_base.specs.Cut.{pieces_left}
 use Rattle.med_base.specs.Prefix.{parts, bad_part_at}

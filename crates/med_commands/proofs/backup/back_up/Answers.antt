@@ -49,7 +49,8 @@ returns-in-Err-backup_node-clause-ends g c =
     (g.O.Sink.state c.args.out.now)) in
     let node_config = node_config_of c.in-Ok-load.config in
     let low = rose_of_node a.nodes.faults b.nodes.faults a.store.faults b.store.faults in
-    let means = LeavesNode node_config c.args.name.now a.nodes b.nodes a.store b.store a.stood b.stood in
+    let means = LeavesNode node_config c.args.name.now a.nodes b.nodes a.store b.store a.stood
+        b.stood in
     let plan = node_plan node_config c.args.name.now a.nodes.snaps a.store.content in
     let word : Left → Type 0 = λ (left : Left). means left × IsSilent a b in
     let stop = stop_of_error c.args.name.now c.in-Err-backup_node.error in
@@ -77,7 +78,8 @@ returns-in-Ok-backup_node-clause-ends g c =
     let files = c.in-Ok-backup_node.records.items in
     let end = seen (λ (x : Unit {0}). x) stop_of c.print_line.result in
     let low = rose_of_node a.nodes.faults b.nodes.faults a.store.faults b.store.faults in
-    let means = LeavesNode node_config c.args.name.now a.nodes b.nodes a.store b.store a.stood b.stood in
+    let means = LeavesNode node_config c.args.name.now a.nodes b.nodes a.store b.store a.stood
+        b.stood in
     let plan = node_plan node_config c.args.name.now a.nodes.snaps a.store.content in
     let word : Left → Type 0 = λ (left : Left). means left × IsSilent a b in
     asked_plan (asked_of c.args.request.now) c.args.name.now a b end c.requires
@@ -86,12 +88,14 @@ returns-in-Ok-backup_node-clause-ends g c =
       (c.in-Ok-load.config, c.in-Ok-load.ensures.ok, refl),
       goes_on (rose_of a b) says
           (λ files. prints (report_line c.args.name.now node_config.node files)
-          (IsDone node_config c.args.name.now a b files) a b) (rose_of a b) (λ w. Unit {0}) files end
+          (IsDone node_config c.args.name.now a b files) a b) (rose_of a b) (λ w. Unit {0}) files
+              end
           (said_as word plan)
           (carried_as low (rose_of a b) (up_node a b) means (λ w. Unit {0}) word (λ v h. tt) plan
           (Ok files) c.in-Ok-backup_node.ensures.ends)
           (printed a b (report_line c.args.name.now node_config.node files)
-          (IsDone node_config c.args.name.now a b files) c.print_line.result c.print_line.ensures.step
+          (IsDone node_config c.args.name.now a b files) c.print_line.result
+              c.print_line.ensures.step
           (done_of node_config c.args.name.now a b files c.in-Ok-backup_node.ensures.ok
           c.in-Ok-backup_node.ensures.snapshot)
           (rw c.as_slice.ensures.value at c.print_line.ensures.ok)

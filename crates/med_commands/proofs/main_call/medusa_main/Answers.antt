@@ -16,7 +16,8 @@ returns-in-Ok g c =
     let a = (world (g.F.Files.state c.args.files.now) (g.N.Nodes.state c.args.nodes.now)
     (g.S.Storage.state c.args.store.now) (g.S.Storage.stood_since c.args.store.now)
     (g.O.Sink.state c.args.out.now)) in
-    let b = (world (g.F.Files.state c.run_command.new.files) (g.N.Nodes.state c.run_command.new.nodes)
+    let b = (world (g.F.Files.state c.run_command.new.files)
+        (g.N.Nodes.state c.run_command.new.nodes)
     (g.S.Storage.state c.run_command.new.store) (g.S.Storage.stood_since c.run_command.new.store)
     (g.O.Sink.state c.run_command.new.out)) in
     let words = map string_bytes c.args.words.now in
