@@ -29,7 +29,8 @@ bad (Err x) e h = h
 
 -- the value of a good call
 pub value_of : {T E : Type 0} (P : T → Type 0) (Q : E → Type 0) (r : Result T E) (x : T)
-    → true ≡ is_ok r → MatchResult r (λ y. ◌≡◌ {A = Result T CopyFault} (Ok x) (Ok y)) Q → IfOk r P → P x
+    → true ≡ is_ok r → MatchResult r (λ y. ◌≡◌ {A = Result T CopyFault} (Ok x) (Ok y)) Q
+    → IfOk r P → P x
 value_of P Q (Ok y) x e is h = subst P (cc is) h
 value_of P Q (Err y) x e is h = absurd (cc e)
 
@@ -47,21 +48,25 @@ pub may_put : (path bytes : List ℕ) (old new : State) (stood_before stood_afte
     → MayPut path bytes old new stood_before stood_after
 may_put path bytes old new stood_before stood_after (Ok x) e failed memory = absurd (cc e)
 may_put path bytes old new stood_before stood_after (Err Failed) e failed memory = failed refl
-may_put path bytes old new stood_before stood_after (Err Memory) e failed memory = inl (memory refl)
+may_put path bytes old new stood_before stood_after (Err Memory) e failed memory =
+    inl (memory refl)
 
 -- why a call of the storage stopped, where its denial is told as a fault
 pub store_stop : {T U : Type 0} (answers : Result U Refusal → Type 0) (A : T → Type 0)
     (Q : Denied → Type 0) (rb rn sb sm sn : ℕ) (r : Result T Denied) (fault : CopyFault)
-    → false ≡ is_ok r → MatchResult r A Q → ((denied : Denied) → Q denied → fault ≡ store_fault denied)
+    → false ≡ is_ok r → MatchResult r A Q
+    → ((denied : Denied) → Q denied → fault ≡ store_fault denied)
     → (r ≡ Err Failed → RoseOrFull sm sn) → sb ≤ sm
     → StopsAt (rose_of_node rb rn sb sn) answers on_storage (stop_of_fault fault)
 store_stop answers A Q rb rn sb sm sn (Ok x) fault e is gives rose later = absurd (cc e)
 store_stop answers A Q rb rn sb sm sn (Err Failed) fault e is gives rose later =
     let risen = rose refl in
-    subst (λ (f : CopyFault). StopsAt (rose_of_node rb rn sb sn) answers on_storage (stop_of_fault f))
+    subst
+    (λ (f : CopyFault). StopsAt (rose_of_node rb rn sb sn) answers on_storage (stop_of_fault f))
     (sym (gives Failed is)) (inl refl, omega (arith, risen, later))
 store_stop answers A Q rb rn sb sm sn (Err Memory) fault e is gives rose later =
-    subst (λ (f : CopyFault). StopsAt (rose_of_node rb rn sb sn) answers on_storage (stop_of_fault f))
+    subst
+    (λ (f : CopyFault). StopsAt (rose_of_node rb rn sb sn) answers on_storage (stop_of_fault f))
     (sym (gives Memory is)) (inr (inl refl), tt)
 
 -- the counts after a call that opened a snapshot
