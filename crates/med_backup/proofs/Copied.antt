@@ -57,7 +57,7 @@ module _ (before f n : List ℕ) (held : Option Snapshot) where
       → ChangesWithin (Stores (meta_path before f n Schema) schema at ∷ []) s0 s1 p0 p1
       → ChangesWithin (map (put_of before f n) copies) s1 s2 p1 p2
       → ChangesWithin (Stores (meta_path before f n Manifest)
-          (manifest_text (records_of before f n copies))
+      (manifest_text (records_of before f n copies))
       end ∷ []) s2 s3 p2 p3
       → ChangesWithin (backup_puts before f n schema at copies end) s0 s3 p0 p3
   all_passed schema at copies end s0 s1 s2 s3 p0 p1 p2 p3 first files last =
@@ -89,7 +89,7 @@ module _ (before f n : List ℕ) (held : Option Snapshot) where
         moves = all_passed schema at all.places.copies end s0 s1 s2 s3 p0 p1 p2 p3 first
             all.places.moves
             (subst (λ (t : List ℕ). ChangesWithin (Stores (meta_path before f n Manifest) t end
-                ∷ []) s2 s3
+            ∷ []) s2 s3
             p2
             p3) (text_is ∙ ap manifest_text all.files_are) moves);
       }

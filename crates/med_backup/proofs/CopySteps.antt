@@ -45,7 +45,7 @@ module _ (before f n : List ℕ) (held : Option Snapshot) (order : List FileKey)
 
     files_left : (at : ℕ) (s0 s1 s2 : State) (p0 p1 p2 : History)
         → ChangesWithin (schema_at at ∷ []) s0 s1 p0 p1 → PlacesSome before f n held order s1 s2 p1
-            p2
+        p2
         → IsMadeBy s0 s2 p0 p2 (IsBegun before f n schema held order)
     files_left at s0 s1 s2 p0 p1 p2 first some = (
       schema_at at ∷ map (put_of before f n) some.places.copies,
@@ -97,7 +97,7 @@ module _ (before f n : List ℕ) (held : Option Snapshot) (order : List FileKey)
       all_passed before f n held schema at all.places.copies end s0 s1 s2 s3 p0 p1 p2 p3 first
           all.places.moves
           (subst (λ (t : List ℕ). ChangesWithin (Stores (meta_path before f n Manifest) t end ∷ [])
-              s2 s3 p2
+          s2 s3 p2
           p3) (text_is ∙ ap manifest_text all.files_are) last),
     )
 

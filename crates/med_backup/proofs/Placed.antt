@@ -42,7 +42,7 @@ module _ (before f n : List ℕ) (held : Option Snapshot) where
   -- nothing was placed
   pub none_placed : (keys : List FileKey) (old new : State) (stood_before stood_after : History)
       → ChangesWithin [] old new stood_before stood_after → PlacesSome before f n held keys old new
-          stood_before stood_after
+      stood_before stood_after
   none_placed keys old new stood_before stood_after moves = record {
     first = [];
     rest = keys;

@@ -62,7 +62,7 @@ abbrev pub MayStore : List ℕ → List ℕ → (old new : State) → (stood_bef
     → Type 0
 MayStore path bytes old new stood_before stood_after =
     ChangesWithin [] old new stood_before stood_after ⊎ ((at : ℕ)
-        × ChangesWithin (Stores path bytes at ∷ []) old new stood_before stood_after)
+    × ChangesWithin (Stores path bytes at ∷ []) old new stood_before stood_after)
 
 -- one object was put
 abbrev pub StoresOne : List ℕ → List ℕ → (old new : State) → (stood_before stood_after : History)

@@ -193,10 +193,10 @@ LeavesNode node_config n nodes nodes_now old new stood_before stood_after Unopen
     ChangesWithin [] old new stood_before stood_after × (nodes_now.counts ≡ nodes.counts)
 LeavesNode node_config n nodes nodes_now old new stood_before stood_after Opened =
     LeavesOpen node_config n nodes nodes_now (opened_at node_config old) new stood_before
-        stood_after Opened
+    stood_after Opened
 LeavesNode node_config n nodes nodes_now old new stood_before stood_after (Worked made) =
     LeavesOpen node_config n nodes nodes_now (opened_at node_config old) new stood_before
-        stood_after (Worked made)
+    stood_after (Worked made)
 
 -- ---- the errors of the code
 

@@ -85,7 +85,7 @@ told_backup before f n schema at end copies (Some s) (Some c) after is free risi
 
 pub done_of : (node_config : NodeConfig) (n : List ℕ) (a b : World) (files : List FileRecord)
     → IsBackedUpFrom node_config.before node_config.node n (snap_at a.nodes.snaps node_config n)
-        (opened_at node_config a.store)
+    (opened_at node_config a.store)
     b.store a.stood b.stood files
     → b.nodes.counts ≡ opened_once (tagged_at node_config n) a.nodes.counts
     → IsDone node_config n a b files
@@ -102,23 +102,23 @@ done_of node_config n a b files m counts =
     (manifest_text (records_of node_config.before node_config.node n copies))
     (records_of node_config.before node_config.node n copies) =
     subst (λ (fs : List FileRecord). IsManifest node_config.before node_config.node n
-        (manifest_text fs) fs)
+    (manifest_text fs) fs)
     m.copied.files_are m.copied.manifest_is in
     let keys_are : IfSome held (λ s. map key_of copies ≡ keys s.files) = IfSome_then held
     m.found.can.keys_are (λ s e. m.copied.keys_are ∙ e) in
     record {
       finished = subst (λ (fs : List FileRecord). IfTold old.content new.content
           (λ c d. FinishesBackup node_config.before node_config.node n c d fs))
-              (sym m.copied.files_are)
+          (sym m.copied.files_are)
           (told_finished node_config.before node_config.node n m.schema m.copied.at m.copied.end
-              copies
+          copies
           old.content new.content
           m.copied.moves.passes.content m.found.was_free rising names manifest);
       backup = subst (λ (fs : List FileRecord). IfTold old.content new.content
           (λ c d. IfSome held (λ s. IsBackupOf node_config.before node_config.node n s c d fs)))
           (sym m.copied.files_are)
           (told_backup node_config.before node_config.node n m.schema m.copied.at m.copied.end
-              copies held
+          copies held
           old.content new.content
           m.copied.moves.passes.content m.found.was_free rising names manifest m.copied.bytes_are
           keys_are m.found.can.schema_is);

@@ -1,6 +1,6 @@
 -- What each command does, as a plan: its steps in their order, what each answers, and what stands
 -- where the command ends there.
-use Rattle.std.specs.Prelude.{◌≡◌, ◌⊎◌, ℕ, List, [], ◌∷◌, Option, Some, None, IfSome, Result, Ok, Err}
+use Rattle.std.specs.Prelude.{◌≡◌, ℕ, List, [], ◌∷◌, Option, IfSome, Result, Ok, Err}
 use Rattle.med_base.specs.Content.{Content}
 use Rattle.med_backup.specs.Backup.{FinishesBackup, IsBackupOf}
 use Rattle.med_backup.specs.Plan.{Passed, Left, LeavesNode, node_plan, tagged_at}
@@ -12,8 +12,7 @@ use Rattle.med_ini.specs.declared.config.Config.{Config}
 use Rattle.med_manifest.specs.declared.manifest.FileRecord.{FileRecord}
 use Rattle.med_outside.specs.Counts.{opened_once}
 use Rattle.med_outside.specs.Ends.{Device, Files, Output, Memory, Refusal, BadWords, NotBuilt, BadConfig, Plan, last, step, then, said_as}
-use Rattle.med_outside.specs.Snapshot.{Snapshot}
-use Rattle.med_outside.specs.State.{State, ChangesWithin}
+use Rattle.med_outside.specs.State.{ChangesWithin}
 use Rattle.med_outside.specs.World.{FileContents, World}
 use Rattle.med_outside.specs.declared.mode.Mode.TheVariants.{Full}
 use Rattle.med_words.specs.Blames.{BlamesWords}
@@ -105,7 +104,7 @@ abbrev pub backup_plan : Asked → List ℕ → (a b : World) → Plan (Type 0) 
 backup_plan asked n a b =
     step (ReadsConfig a.files.contents asked) on_files (IsUntouched a b) (λ node_config.
     then (said_as (λ (left : Left). LeavesNode node_config n a.nodes b.nodes a.store b.store a.stood
-        b.stood
+    b.stood
     left × IsSilent a b) (node_plan node_config n a.nodes.snaps a.store.content)) (λ files.
     prints (report_line n node_config.node files) (IsDone node_config n a b files) a b))
 

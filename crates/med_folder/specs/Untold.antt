@@ -1,7 +1,6 @@
 -- What contracts see of a storage and of nodes over real files: their faults, the bucket that is
 -- open, and which snapshots were opened and closed.
 use Rattle.std.specs.Prelude.{ℕ, List, None}
-use Rattle.med_base.specs.Content.{Content}
 use Rattle.med_outside.specs.Counts.{SnapshotCounts, Tagged}
 use Rattle.med_outside.specs.State.{State, OpenBucket, History}
 use Rattle.med_outside.specs.World.{NodesState}

@@ -273,7 +273,7 @@ fn is_made<R: Files>(rt: &R, long: &[u8]) -> bool {
 fn a_snapshot_lists_and_reads_files_and_indexes_but_no_links(rt: HostRuntime) {
     let long = long_file(rt.alloc());
     assert!(rt; is_made(&rt, long.as_slice()));
-    let mut nodes = FolderNodes::new(alloc, rt);
+    let mut nodes = FolderNodes::new(rt.alloc(), rt);
     assert_eq!(rt; first_wrong(rt.alloc(), &mut nodes, "n1", LISTED), None);
     assert_eq!(rt;
         first_misread(rt.alloc(), &mut nodes, long.as_slice(), READ),
@@ -287,7 +287,7 @@ schema => failed";
 
 #[test]
 fn a_node_without_a_folder_has_no_keys_and_no_schema(rt: HostRuntime) {
-    let mut nodes = FolderNodes::new(alloc, rt);
+    let mut nodes = FolderNodes::new(rt.alloc(), rt);
     assert_eq!(rt; first_wrong(rt.alloc(), &mut nodes, "n2", ABSENT), None);
 }
 
@@ -298,7 +298,7 @@ link nodes/n3/data=data";
 #[test]
 fn a_folder_that_cant_be_read_is_a_fault(rt: HostRuntime) {
     assert_eq!(rt; first_undone(&rt, LOOPED), None);
-    let mut nodes = FolderNodes::new(alloc, rt);
+    let mut nodes = FolderNodes::new(rt.alloc(), rt);
     assert_eq!(rt;
         first_wrong(rt.alloc(), &mut nodes, "n3", "keys => failed"),
         None

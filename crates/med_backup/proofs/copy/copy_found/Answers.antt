@@ -16,25 +16,25 @@ place_all-requires g c = rw c.as_slice-keys.ensures.value
 pub returns-in_err-files-clause-ends : goal.returns-in_err-files-clause-ends
 returns-in_err-files-clause-ends g c =
     let first = rw c.as_slice-schema.ensures.value at (good c.put_meta.result
-        c.in_ok-map_err.ensures.variant c.put_meta.ensures.ok) in
+    c.in_ok-map_err.ensures.variant c.put_meta.ensures.ok) in
     let p = err_from_is_err_and c.from_residual-in_err-files.result
-        c.from_residual-in_err-files.ensures.1 in
+    c.from_residual-in_err-files.ensures.1 in
     rw (p.1, p.2) (files_stopped c.args.layout.now c.args.node.now c.args.name.now
-        (g.P.Snap.held c.args.snap.now)
+    (g.P.Snap.held c.args.snap.now)
     c.args.found.now.keys.items c.args.found.now.schema.items
     (rose_of_node (g.P.Snap.faults c.args.snap.now) (g.P.Snap.faults c.place_all.new.snap)
     (g.S.Storage.state c.args.store.now).faults (g.S.Storage.state c.place_all.new.store).faults)
     (stop_of_fault c.in_err-files.field-0.0) first.0
     (g.S.Storage.state c.args.store.now) (g.S.Storage.state c.put_meta.new.store)
-        (g.S.Storage.state c.place_all.new.store)
+    (g.S.Storage.state c.place_all.new.store)
     (g.S.Storage.stood_since c.args.store.now) (g.S.Storage.stood_since c.put_meta.new.store)
-        (g.S.Storage.stood_since c.place_all.new.store)
+    (g.S.Storage.stood_since c.place_all.new.store)
     (copy_stop c.args.layout.now c.args.node.now c.args.name.now (g.P.Snap.held c.args.snap.now)
     c.args.found.now.keys.items (g.P.Snap.faults c.args.snap.now)
     (g.P.Snap.faults c.place_all.new.snap) (g.S.Storage.state c.args.store.now).faults
     (g.S.Storage.state c.put_meta.new.store).faults
     (g.S.Storage.state c.place_all.new.store).faults c.put_meta.ensures.cause.later
-        c.in_err-files.field-0.0
+    c.in_err-files.field-0.0
     c.in_err-files.ensures.cause)
     first.1 (rw c.as_slice-keys.ensures.value at c.in_err-files.ensures.err))
 
@@ -52,29 +52,29 @@ write-requires g c =
 pub returns-in_err-text-clause-ends : goal.returns-in_err-text-clause-ends
 returns-in_err-text-clause-ends g c =
     let first = rw c.as_slice-schema.ensures.value at (good c.put_meta.result
-        c.in_ok-map_err.ensures.variant c.put_meta.ensures.ok) in
+    c.in_ok-map_err.ensures.variant c.put_meta.ensures.ok) in
     let all = rw c.as_slice-keys.ensures.value at c.in_ok-files.ensures.ok in
     let p = err_from_is_err_and c.from_residual-in_err-text.result
-        c.from_residual-in_err-text.ensures.1 in
+    c.from_residual-in_err-text.ensures.1 in
     rw (p.1, p.2) (text_stopped c.args.layout.now c.args.node.now c.args.name.now
-        (g.P.Snap.held c.args.snap.now)
+    (g.P.Snap.held c.args.snap.now)
     c.args.found.now.keys.items c.args.found.now.schema.items
     (rose_of_node (g.P.Snap.faults c.args.snap.now) (g.P.Snap.faults c.place_all.new.snap)
     (g.S.Storage.state c.args.store.now).faults (g.S.Storage.state c.place_all.new.store).faults)
     (Failed Memory) first.0 c.in_ok-files.files.items
     (g.S.Storage.state c.args.store.now) (g.S.Storage.state c.put_meta.new.store)
-        (g.S.Storage.state c.place_all.new.store)
+    (g.S.Storage.state c.place_all.new.store)
     (g.S.Storage.stood_since c.args.store.now) (g.S.Storage.stood_since c.put_meta.new.store)
-        (g.S.Storage.stood_since c.place_all.new.store)
+    (g.S.Storage.stood_since c.place_all.new.store)
     (inr (inl refl), tt) first.1 all)
 
 pub returns-clause-ok : goal.returns-clause-ok
 returns-clause-ok g c =
     let first = rw c.as_slice-schema.ensures.value at (good c.put_meta.result
-        c.in_ok-map_err.ensures.variant c.put_meta.ensures.ok) in
+    c.in_ok-map_err.ensures.variant c.put_meta.ensures.ok) in
     let all = rw c.as_slice-keys.ensures.value at c.in_ok-files.ensures.ok in
     let last = rw c.as_slice-bytes.ensures.value at (good c.put_meta-2.result
-        c.in_ok-map_err-2.ensures.variant c.put_meta-2.ensures.ok) in
+    c.in_ok-map_err-2.ensures.variant c.put_meta-2.ensures.ok) in
     let names = files_names c.args.layout.now c.args.node.now c.args.name.now
     (g.P.Snap.held c.args.snap.now) c.args.found.now.keys.items c.args.found.now.schema.items
     (g.S.Storage.state c.put_meta.new.store) (g.S.Storage.state c.place_all.new.store)
@@ -101,43 +101,43 @@ returns-clause-ok g c =
 pub returns-clause-ends : goal.returns-clause-ends
 returns-clause-ends g c =
     let first = rw c.as_slice-schema.ensures.value at (good c.put_meta.result
-        c.in_ok-map_err.ensures.variant c.put_meta.ensures.ok) in
+    c.in_ok-map_err.ensures.variant c.put_meta.ensures.ok) in
     let all = rw c.as_slice-keys.ensures.value at c.in_ok-files.ensures.ok in
     let last = rw c.as_slice-bytes.ensures.value at (good c.put_meta-2.result
-        c.in_ok-map_err-2.ensures.variant c.put_meta-2.ensures.ok) in
+    c.in_ok-map_err-2.ensures.variant c.put_meta-2.ensures.ok) in
     all_put c.args.layout.now c.args.node.now c.args.name.now (g.P.Snap.held c.args.snap.now)
     c.args.found.now.keys.items c.args.found.now.schema.items
     (rose_of_node (g.P.Snap.faults c.args.snap.now) (g.P.Snap.faults c.place_all.new.snap)
     (g.S.Storage.state c.args.store.now).faults (g.S.Storage.state c.put_meta-2.new.store).faults)
     first.0 c.in_ok-files.files.items c.in_ok-text.text.items last.0
     (g.S.Storage.state c.args.store.now) (g.S.Storage.state c.put_meta.new.store)
-        (g.S.Storage.state c.place_all.new.store) (g.S.Storage.state c.put_meta-2.new.store)
+    (g.S.Storage.state c.place_all.new.store) (g.S.Storage.state c.put_meta-2.new.store)
     (g.S.Storage.stood_since c.args.store.now) (g.S.Storage.stood_since c.put_meta.new.store)
-        (g.S.Storage.stood_since c.place_all.new.store) (g.S.Storage.stood_since
-        c.put_meta-2.new.store)
+    (g.S.Storage.stood_since c.place_all.new.store) (g.S.Storage.stood_since
+    c.put_meta-2.new.store)
     c.in_ok-text.ensures.text first.1 all last.1
 
 pub returns-in_err-map_err-2-clause-ends : goal.returns-in_err-map_err-2-clause-ends
 returns-in_err-map_err-2-clause-ends g c =
     let first = rw c.as_slice-schema.ensures.value at (good c.put_meta.result
-        c.in_ok-map_err.ensures.variant c.put_meta.ensures.ok) in
+    c.in_ok-map_err.ensures.variant c.put_meta.ensures.ok) in
     let all = rw c.as_slice-keys.ensures.value at c.in_ok-files.ensures.ok in
     let p = err_from_is_err_and c.from_residual-in_err-map_err-2.result
-        c.from_residual-in_err-map_err-2.ensures.1 in
+    c.from_residual-in_err-map_err-2.ensures.1 in
     rw (p.1, p.2) (manifest_stopped c.args.layout.now c.args.node.now c.args.name.now
-        (g.P.Snap.held c.args.snap.now)
+    (g.P.Snap.held c.args.snap.now)
     c.args.found.now.keys.items c.args.found.now.schema.items
     (rose_of_node (g.P.Snap.faults c.args.snap.now) (g.P.Snap.faults c.place_all.new.snap)
     (g.S.Storage.state c.args.store.now).faults (g.S.Storage.state c.put_meta-2.new.store).faults)
     (stop_of_fault c.in_err-map_err-2.field-0.0) first.0 c.in_ok-files.files.items
-        c.in_ok-text.text.items
+    c.in_ok-text.text.items
     (g.S.Storage.state c.args.store.now) (g.S.Storage.state c.put_meta.new.store)
-        (g.S.Storage.state c.place_all.new.store) (g.S.Storage.state c.put_meta-2.new.store)
+    (g.S.Storage.state c.place_all.new.store) (g.S.Storage.state c.put_meta-2.new.store)
     (g.S.Storage.stood_since c.args.store.now) (g.S.Storage.stood_since c.put_meta.new.store)
-        (g.S.Storage.stood_since c.place_all.new.store) (g.S.Storage.stood_since
-        c.put_meta-2.new.store)
+    (g.S.Storage.stood_since c.place_all.new.store) (g.S.Storage.stood_since
+    c.put_meta-2.new.store)
     (store_stop (Passed {T = Unit {0}}) _ _ (g.P.Snap.faults c.args.snap.now)
-        (g.P.Snap.faults c.place_all.new.snap)
+    (g.P.Snap.faults c.place_all.new.snap)
     (g.S.Storage.state c.args.store.now).faults (g.S.Storage.state c.place_all.new.store).faults
     (g.S.Storage.state c.put_meta-2.new.store).faults c.put_meta-2.result
     c.in_err-map_err-2.field-0.0 c.in_err-map_err-2.ensures.variant c.in_err-map_err-2.ensures.cases

@@ -22,7 +22,7 @@ returns-in-None-clause-ends g c = inr (
       tt,
       free_of _ _ (rw c.in-None.is at (value_of _ _ c.first_under.result c.in_ok-map_err.field-0
           c.in_ok-map_err.ensures.variant c.in_ok-map_err.ensures.cases
-              c.first_under.ensures.first)),
+          c.first_under.ensures.first)),
       (refl, ([], refl, c.first_under.ensures.looks.moves)),
     ),
   ),
@@ -46,7 +46,7 @@ returns-in-Some-clause-ends g c = inr (
         refl,
         rw c.in-Some.is at (value_of _ _ c.first_under.result c.in_ok-map_err.field-0
             c.in_ok-map_err.ensures.variant c.in_ok-map_err.ensures.cases
-                c.first_under.ensures.first),
+            c.first_under.ensures.first),
       ),
       ([], refl, c.first_under.ensures.looks.moves),
     ),
@@ -56,7 +56,7 @@ returns-in-Some-clause-ends g c = inr (
 pub returns-in_err-map_err-clause-ends : goal.returns-in_err-map_err-clause-ends
 returns-in_err-map_err-clause-ends g c =
     let p = err_from_is_err_and c.from_residual-in_err-map_err.result
-        c.from_residual-in_err-map_err.ensures.1 in
+    c.from_residual-in_err-map_err.ensures.1 in
     rw (p.1, p.2) (inr (
       c.in-Ok.keys.items,
       (

@@ -20,17 +20,17 @@ returns-clause-ok g c =
     (g.S.Storage.state c.open-opened.new.self) (g.S.Storage.stood_since c.args.store.now)
     (g.S.Storage.stood_since c.open-opened.new.self) =
     rw (c.as_str-base.ensures.value, c.as_str-bucket.ensures.value) at
-        (good c.open-opened.result c.in_ok-map_err.ensures.variant c.open-opened.ensures.ok) in
+    (good c.open-opened.result c.in_ok-map_err.ensures.variant c.open-opened.ensures.ok) in
     let held = snap_at (g.N.Nodes.state c.args.nodes.now).snaps (node_config_of c.args.config.now)
     c.args.name.now in
     IfOk-weaker c.backup_opened.result
     (λ (files : Vec FileRecord Global). IsBackedUpFrom c.args.config.now.layout
-        c.args.config.now.node
+    c.args.config.now.node
     c.args.name.now held (g.S.Storage.state c.open-opened.new.self)
     (g.S.Storage.state c.backup_opened.new.store) (g.S.Storage.stood_since c.open-opened.new.self)
     (g.S.Storage.stood_since c.backup_opened.new.store) files.items)
     (λ (files : Vec FileRecord Global). IsBackedUpFrom c.args.config.now.layout
-        c.args.config.now.node
+    c.args.config.now.node
     c.args.name.now held
     (opened_at (node_config_of c.args.config.now) (g.S.Storage.state c.args.store.now))
     (g.S.Storage.state c.backup_opened.new.store) (g.S.Storage.stood_since c.args.store.now)
@@ -49,7 +49,7 @@ returns-clause-ends g c =
     (g.S.Storage.state c.open-opened.new.self) (g.S.Storage.stood_since c.args.store.now)
     (g.S.Storage.stood_since c.open-opened.new.self) =
     rw (c.as_str-base.ensures.value, c.as_str-bucket.ensures.value) at
-        (good c.open-opened.result c.in_ok-map_err.ensures.variant c.open-opened.ensures.ok) in
+    (good c.open-opened.result c.in_ok-map_err.ensures.variant c.open-opened.ensures.ok) in
     let content = same_content (opened_at node_config (g.S.Storage.state c.args.store.now))
     (g.S.Storage.state c.open-opened.new.self) (g.S.Storage.stood_since c.args.store.now)
     (g.S.Storage.stood_since c.open-opened.new.self) first.passes in
@@ -86,7 +86,7 @@ returns-clause-ends g c =
           (g.N.Nodes.state c.backup_opened.new.nodes) (g.S.Storage.state c.args.store.now)
           (g.S.Storage.state c.open-opened.new.self) (g.S.Storage.state c.backup_opened.new.store)
           (g.S.Storage.stood_since c.args.store.now) (g.S.Storage.stood_since
-              c.open-opened.new.self)
+          c.open-opened.new.self)
           (g.S.Storage.stood_since c.backup_opened.new.store) first)
           (opened_plan node_config c.args.name.now (g.N.Nodes.state c.args.nodes.now).snaps
           (g.S.Storage.state c.args.store.now).content)

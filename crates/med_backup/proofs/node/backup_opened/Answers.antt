@@ -18,7 +18,7 @@ returns-clause-snapshot g c =
     (tagged c.as_str-root.result.now c.args.config.now.node c.as_str-2.result.now)
     (g.N.Nodes.state c.args.nodes.now).counts =
     c.close.ensures.counts ∙ ap with_closed (c.open-opened.ensures.counts
-        ∙ counts_of c.open-opened.result _ _ c.in_ok-snap.ensures.variant) in
+    ∙ counts_of c.open-opened.result _ _ c.in_ok-snap.ensures.variant) in
     on_ok c.backup_snapshot-answer.result (rw (c.as_str-root.ensures.value, tag) at counts)
 
 pub returns-clause-ends : goal.returns-clause-ends
@@ -30,7 +30,7 @@ returns-clause-ends g c =
     (tagged c.as_str-root.result.now c.args.config.now.node c.as_str-2.result.now)
     (g.N.Nodes.state c.args.nodes.now).counts =
     c.close.ensures.counts ∙ ap with_closed (c.open-opened.ensures.counts
-        ∙ counts_of c.open-opened.result _ _ c.in_ok-snap.ensures.variant) in
+    ∙ counts_of c.open-opened.result _ _ c.in_ok-snap.ensures.variant) in
     let made = IsMadeBy (g.S.Storage.state c.args.store.now)
     (g.S.Storage.state c.backup_snapshot-answer.new.store)
     (g.S.Storage.stood_since c.args.store.now)
@@ -54,7 +54,7 @@ returns-clause-ends g c =
           (g.S.Storage.state c.args.store.now).faults
           (g.S.Storage.state c.backup_snapshot-answer.new.store).faults
           c.open-opened.ensures.cause.later (value_of _ _ c.open-opened.result c.in_ok-snap.snap
-              c.in_ok-snap.ensures.variant
+          c.in_ok-snap.ensures.variant
           c.in_ok-snap.ensures.cases c.open-opened.ensures.fresh) c.close.ensures.faults)
           made
           (LeavesOpen node_config c.args.name.now (g.N.Nodes.state c.args.nodes.now)

@@ -10,7 +10,7 @@ pub returns-in_err-found-clause-ends : goal.returns-in_err-found-clause-ends
 returns-in_err-found-clause-ends g c =
     let p = err_from_is_err_and c.from_residual.result c.from_residual.ensures.1 in
     rw (p.1, p.2) (stops_all (rose_of_node (g.P.Snap.faults c.args.snap.now)
-        (g.P.Snap.faults c.look.new.snap)
+    (g.P.Snap.faults c.look.new.snap)
     (g.S.Storage.state c.args.store.now).faults (g.S.Storage.state c.look.new.store).faults)
     (IsMadeBy (g.S.Storage.state c.args.store.now) (g.S.Storage.state c.look.new.store)
     (g.S.Storage.stood_since c.args.store.now) (g.S.Storage.stood_since c.look.new.store))
@@ -35,7 +35,7 @@ returns-clause-ok g c = record {
   found = c.in_ok-found.ensures.ok;
   copied = copied_after c.args.layout.now c.args.node.now c.args.name.now
       (g.P.Snap.held c.args.snap.now) c.in_ok-found.found.keys.items
-          c.in_ok-found.found.schema.items
+      c.in_ok-found.found.schema.items
       (g.S.Storage.state c.args.store.now) (g.S.Storage.state c.look.new.store)
       (g.S.Storage.state c.copy_found.new.store)
       (g.S.Storage.stood_since c.args.store.now) (g.S.Storage.stood_since c.look.new.store)
@@ -54,7 +54,7 @@ returns-clause-ends g c =
     (g.P.Snap.faults c.copy_found.new.snap)
     (g.S.Storage.state c.args.store.now).faults (g.S.Storage.state c.copy_found.new.store).faults in
     let means = IsMadeBy (g.S.Storage.state c.args.store.now)
-        (g.S.Storage.state c.copy_found.new.store)
+    (g.S.Storage.state c.copy_found.new.store)
     (g.S.Storage.stood_since c.args.store.now) (g.S.Storage.stood_since c.copy_found.new.store) in
     goes_on rose means
     (λ found. copy_plan c.args.layout.now c.args.node.now c.args.name.now
@@ -84,7 +84,7 @@ returns-clause-ends g c =
 pub returns-in_err-files-clause-ends : goal.returns-in_err-files-clause-ends
 returns-in_err-files-clause-ends g c =
     let p = err_from_is_err_and c.from_residual-in_err-files.result
-        c.from_residual-in_err-files.ensures.1 in
+    c.from_residual-in_err-files.ensures.1 in
     let low = rose_of_node (g.P.Snap.faults c.args.snap.now) (g.P.Snap.faults c.look.new.snap)
     (g.S.Storage.state c.args.store.now).faults (g.S.Storage.state c.look.new.store).faults in
     let mid = rose_of_node (g.P.Snap.faults c.look.new.snap) (g.P.Snap.faults c.copy_found.new.snap)
@@ -93,7 +93,7 @@ returns-in_err-files-clause-ends g c =
     (g.P.Snap.faults c.copy_found.new.snap)
     (g.S.Storage.state c.args.store.now).faults (g.S.Storage.state c.copy_found.new.store).faults in
     let means = IsMadeBy (g.S.Storage.state c.args.store.now)
-        (g.S.Storage.state c.copy_found.new.store)
+    (g.S.Storage.state c.copy_found.new.store)
     (g.S.Storage.stood_since c.args.store.now) (g.S.Storage.stood_since c.copy_found.new.store) in
     rw (p.1, p.2) (goes_on rose means
     (λ found. copy_plan c.args.layout.now c.args.node.now c.args.name.now
@@ -118,5 +118,5 @@ returns-in_err-files-clause-ends g c =
     c.look.ensures.looks.moves)
     (copy_plan c.args.layout.now c.args.node.now c.args.name.now (g.P.Snap.held c.args.snap.now)
     c.in_ok-found.found.keys.items c.in_ok-found.found.schema.items)
-        (Err (stop_of_fault c.in_err-files.field-0.0))
+    (Err (stop_of_fault c.in_err-files.field-0.0))
     (rw c.look.ensures.same at c.in_err-files.ensures.ends)))

@@ -57,7 +57,7 @@ returns-in_err-record-clause-err g c =
     (split_at c.args.keys.now c.loop-key.key-index c.key-item.result c.loop-key-test.true
     c.key-item.is)
     c.loop-key.invariant.placed.places (rw c.loop-key.invariant.same at
-        c.in_err-record.ensures.err))
+    c.in_err-record.ensures.err))
 
 pub returns-in_err-push-clause-err : goal.returns-in_err-push-clause-err
 returns-in_err-push-clause-err g c =

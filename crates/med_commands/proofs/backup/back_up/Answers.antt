@@ -1,5 +1,4 @@
-use Rattle.std.proofs.Common.{Ok, Err, inl, inr, refl, Vec, Global}
-use Rattle.med_manifest.specs.declared.manifest.FileRecord.{FileRecord}
+use Rattle.std.proofs.Common.{Ok, Err, inl, inr, refl}
 use Rattle.med_outside.specs.Ends.{Failed, Memory, seen, said_as}
 use Rattle.med_outside.specs.World.{world, rose_of, rose_of_node}
 use Rattle.med_outside.proofs.EndsLemmas.{carried_as, goes_on, stops_all}
@@ -50,7 +49,7 @@ returns-in-Err-backup_node-clause-ends g c =
     let node_config = node_config_of c.in-Ok-load.config in
     let low = rose_of_node a.nodes.faults b.nodes.faults a.store.faults b.store.faults in
     let means = LeavesNode node_config c.args.name.now a.nodes b.nodes a.store b.store a.stood
-        b.stood in
+    b.stood in
     let plan = node_plan node_config c.args.name.now a.nodes.snaps a.store.content in
     let word : Left → Type 0 = λ (left : Left). means left × IsSilent a b in
     let stop = stop_of_error c.args.name.now c.in-Err-backup_node.error in
@@ -79,7 +78,7 @@ returns-in-Ok-backup_node-clause-ends g c =
     let end = seen (λ (x : Unit {0}). x) stop_of c.print_line.result in
     let low = rose_of_node a.nodes.faults b.nodes.faults a.store.faults b.store.faults in
     let means = LeavesNode node_config c.args.name.now a.nodes b.nodes a.store b.store a.stood
-        b.stood in
+    b.stood in
     let plan = node_plan node_config c.args.name.now a.nodes.snaps a.store.content in
     let word : Left → Type 0 = λ (left : Left). means left × IsSilent a b in
     asked_plan (asked_of c.args.request.now) c.args.name.now a b end c.requires
@@ -89,13 +88,13 @@ returns-in-Ok-backup_node-clause-ends g c =
       goes_on (rose_of a b) says
           (λ files. prints (report_line c.args.name.now node_config.node files)
           (IsDone node_config c.args.name.now a b files) a b) (rose_of a b) (λ w. Unit {0}) files
-              end
+          end
           (said_as word plan)
           (carried_as low (rose_of a b) (up_node a b) means (λ w. Unit {0}) word (λ v h. tt) plan
           (Ok files) c.in-Ok-backup_node.ensures.ends)
           (printed a b (report_line c.args.name.now node_config.node files)
           (IsDone node_config c.args.name.now a b files) c.print_line.result
-              c.print_line.ensures.step
+          c.print_line.ensures.step
           (done_of node_config c.args.name.now a b files c.in-Ok-backup_node.ensures.ok
           c.in-Ok-backup_node.ensures.snapshot)
           (rw c.as_slice.ensures.value at c.print_line.ensures.ok)

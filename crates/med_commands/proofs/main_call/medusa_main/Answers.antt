@@ -17,7 +17,7 @@ returns-in-Ok g c =
     (g.S.Storage.state c.args.store.now) (g.S.Storage.stood_since c.args.store.now)
     (g.O.Sink.state c.args.out.now)) in
     let b = (world (g.F.Files.state c.run_command.new.files)
-        (g.N.Nodes.state c.run_command.new.nodes)
+    (g.N.Nodes.state c.run_command.new.nodes)
     (g.S.Storage.state c.run_command.new.store) (g.S.Storage.stood_since c.run_command.new.store)
     (g.O.Sink.state c.run_command.new.out)) in
     let words = map string_bytes c.args.words.now in
