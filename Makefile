@@ -12,7 +12,7 @@ test:
 run:
 	@room=$$(mktemp -d)
 	trap 'rm -rf "$$room"' EXIT
-	echo 'proving medusa and the crates below it: from nothing a quarter of an hour and more' >&2
+	echo 'proving medusa and the crates below it: from nothing about a quarter of an hour of processor time' >&2
 	# Without words the program answers its usage with status 2, and writes no file. Of what rt says the
 	# crates are shown, each when it is proved.
 	status=0
