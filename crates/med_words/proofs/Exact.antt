@@ -8,7 +8,7 @@ use Rattle.clap.specs.Walk.{Held, Walk, Row, Rule, finished, with_default, settl
 use Rattle.clap.specs.Faults.{defaults_fault, check_fault, level_fault, walk_fault, settle_fault}
 use Rattle.clap.specs.declared.error.kind.ErrorKind.{ErrorKind}
 use Rattle.med_words.specs.Grammar.{Text, Opt, Use, opt_name, opt_of, spelled, Fits, AreOnce, IsMet, Commands, options_of}
-use Rattle.med_words.specs.Passes.{Passes}
+use Rattle.med_words.specs.WellFormed.{IsWellFormed}
 use Rattle.med_base.proofs.Bools.{same_bytes}
 use Rattle.med_words.proofs.Rows.{Level, IsGoodName, leaf, rules}
 use Rattle.med_words.proofs.Steps.{or_else_nil, or_else_join, faults}
@@ -59,7 +59,8 @@ module _ (lev : Level) (table : List Opt) (good : IsTable table) where
     pub below_none : below ≡ []
     pub entered_is : (not has && not lev.is_leaf) ≡ false
 
-  pub level_read : (words : List Text) (has : Bool) (below : Kinds) → AllByRecursion Passes words
+  pub level_read : (words : List Text) (has : Bool) (below : Kinds)
+      → AllByRecursion IsWellFormed words
       → level_fault (leaf lev rs) lev.names nothing_held words has below ≡ []
       → LevelRead words has below
   level_read words has below passes l =

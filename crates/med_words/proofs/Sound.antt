@@ -6,7 +6,7 @@ use Rattle.clap.specs.Kinds.{Kinds}
 use Rattle.clap.specs.Walk.{Held, Walk, Row, Rule, walk_from, walked}
 use Rattle.clap.specs.Faults.{turn_fault, walk_fault}
 use Rattle.med_words.specs.Grammar.{Text, Opt, valued, flag, Use, alone, joined, apart, opt_of, spelled, Fits, AreOnce}
-use Rattle.med_words.specs.Passes.{Passes, HyphenPasses, EndsWell}
+use Rattle.med_words.specs.WellFormed.{IsWellFormed, IsRestOfOption, EndsWell}
 use Rattle.med_words.proofs.Rows.{Level, rules, value_rule, flag_rule, rows}
 use Rattle.med_words.proofs.Steps.{or_else_nil, faults, faults_end, faults_step, here}
 use Rattle.std.proofs.lemmas.Bool.{cases_eq}
@@ -39,7 +39,7 @@ module _ (name : Level) (table : List Opt) where
 
   abbrev Reads : ℕ → Type 0
   Reads fuel = (words : List Text) → length words ≤ fuel → (h : Held) (done : List Use)
-      → AllByRecursion Passes words → places.Stands name table h done
+      → AllByRecursion IsWellFormed words → places.Stands name table h done
       → faults name rs (walk_from h) words ≡ [] → Read h done words
 
   -- one use more before what was read
@@ -52,7 +52,7 @@ module _ (name : Level) (table : List Opt) where
       ∙ ap rows (append_assoc done (u ∷ []) r.uses)
 
   hyphens : (n : Text) (q : Bool) (h : Held) (x : ℕ) (xs : Text)
-      → opt_of table n ≡ Some (valued n q) → HyphenPasses xs → x ≡ 45
+      → opt_of table n ≡ Some (valued n q) → IsRestOfOption xs → x ≡ 45
       → turn_fault (here name rs) name.names (level.waits name table n h) (x ∷ xs) ≡ [] → ⊥
   hyphens n q h x [] found p same none = absurd p
   hyphens n q h x (y ∷ []) found p same none = absurd p
@@ -63,7 +63,7 @@ module _ (name : Level) (table : List Opt) where
 
   joined_case : (fuel : ℕ) (h : Held) (done : List Use) (z : ℕ)
       (zs n v : Text) (q : Bool) (rest : List Text) → Reads fuel → length rest ≤ fuel
-      → AllByRecursion Passes rest
+      → AllByRecursion IsWellFormed rest
       → places.Stands name table h done → z ∷ zs ≡ n ++ 61 ∷ v → 0 < length v
       → name_and_value (z ∷ zs) ≡ (n, Some v) → opt_of table n ≡ Some (valued n q)
       → turn_fault (here name rs) name.names (walk_from h) (45 ∷ 45 ∷ z ∷ zs) ≡ []
@@ -94,7 +94,7 @@ module _ (name : Level) (table : List Opt) where
       }
 
   alone_case : (fuel : ℕ) (h : Held) (done : List Use) (z : ℕ) (zs : Text) (rest : List Text)
-      → Reads fuel → length rest ≤ fuel → AllByRecursion Passes rest
+      → Reads fuel → length rest ≤ fuel → AllByRecursion IsWellFormed rest
       → places.Stands name table h done → name_and_value (z ∷ zs) ≡ (z ∷ zs, None)
       → opt_of table (z ∷ zs) ≡ Some (flag (z ∷ zs))
       → turn_fault (here name rs) name.names (walk_from h) (45 ∷ 45 ∷ z ∷ zs) ≡ []
@@ -125,7 +125,7 @@ module _ (name : Level) (table : List Opt) where
       }
 
   apart_case : (fuel : ℕ) (h : Held) (done : List Use) (z : ℕ) (zs : Text) (q : Bool) (rest : List
-      Text) → Reads fuel → length rest ≤ fuel → AllByRecursion Passes rest
+      Text) → Reads fuel → length rest ≤ fuel → AllByRecursion IsWellFormed rest
       → places.Stands name table h done → name_and_value (z ∷ zs) ≡ (z ∷ zs, None)
       → opt_of table (z ∷ zs) ≡ Some (valued (z ∷ zs) q)
       → turn_fault (here name rs) name.names (walk_from h) (45 ∷ 45 ∷ z ∷ zs) ≡ []
@@ -184,7 +184,7 @@ module _ (name : Level) (table : List Opt) where
 
   -- by what the word says, and what the table has
   long_case : (fuel : ℕ) (h : Held) (done : List Use) (z : ℕ) (zs : Text) (rest : List Text)
-      → Reads fuel → length rest ≤ fuel → AllByRecursion Passes rest → EndsWell (z ∷ zs)
+      → Reads fuel → length rest ≤ fuel → AllByRecursion IsWellFormed rest → EndsWell (z ∷ zs)
       → places.Stands name table h done → turn_fault (here name rs) name.names (walk_from h)
       (45 ∷ 45 ∷ z ∷ zs) ≡ [] → faults name rs
       (walked rs name.names (walk_from h) (45 ∷ 45 ∷ z ∷ zs)) rest ≡ []
@@ -224,7 +224,8 @@ module _ (name : Level) (table : List Opt) where
           (subst (λ (t : Text). 0 < length t) (sym at) (ends has)) (opt_of table n) refl
 
   hyphen_case : (fuel : ℕ) (h : Held) (done : List Use) (x : ℕ) (xs : Text) (rest : List Text)
-      → Reads fuel → length rest ≤ fuel → AllByRecursion Passes rest → HyphenPasses xs → x ≡ 45
+      → Reads fuel → length rest ≤ fuel → AllByRecursion IsWellFormed rest → IsRestOfOption xs → x
+      ≡ 45
       → places.Stands name table h done → turn_fault (here name rs) name.names (walk_from h)
       (x ∷ xs) ≡ [] → faults name rs (walked rs name.names (walk_from h) (x ∷ xs)) rest ≡ []
       → Read h done ((x ∷ xs) ∷ rest)

@@ -7,7 +7,7 @@ use Rattle.clap.specs.Walk.{Names, Row, Rule, answers_to, nothing_held, walk, fi
 use Rattle.clap.specs.Faults.{fault_of, built_fault, level_fault, entered_fault}
 use Rattle.clap.specs.Simple.{App, Shape, built, built_leaf, inherited, entered, label_of, matches_of, names_of, subcommand_of, marked_built, with_leaf_noted, rows_at}
 use Rattle.med_words.specs.Grammar.{Text, Opt, Use, Commands, spelled, Fits, IsMet, IsLine}
-use Rattle.med_words.specs.Passes.{Passes}
+use Rattle.med_words.specs.WellFormed.{IsWellFormed}
 use Rattle.med_words.specs.Built.{line_app, sub_shape}
 use Rattle.med_base.proofs.Bools.{same_bytes}
 use Rattle.med_base.proofs.Lists.{all_split}
@@ -154,7 +154,7 @@ module _ (name : Text) (top : List Opt) (commands : Commands) (no_hyphen : (rest
       pub own_rows : subcommand_of (line_app name top commands) words
           ≡ Some (command, end_rows line.options own)
 
-    pub line_sound : (words : List Text) → AllByRecursion Passes words
+    pub line_sound : (words : List Text) → AllByRecursion IsWellFormed words
         → fault_of (line_app name top commands) words ≡ [] → Line words
     line_sound words passes e =
         let r = level_read top_level top good words (is_some (entered built_line (stop_of words)))
@@ -192,9 +192,9 @@ module _ (name : Text) (top : List Opt) (commands : Commands) (no_hyphen : (rest
                 ap (λ w. find (λ (d : Text × List Opt). bytes_eq d.0 w) commands) name_is ∙ f in
                 let whole : words ≡ flat_map spelled r.uses ++ p.0 ∷ p.1 = r.words_are
                 ∙ ap (λ x. flat_map spelled r.uses ++ tail_words top_level top x) t in
-                let back : AllByRecursion Passes (p.0 ∷ p.1) =
-                (all_split Passes (flat_map spelled r.uses) (p.0 ∷ p.1)
-                (subst (AllByRecursion Passes) whole passes)).1 in
+                let back : AllByRecursion IsWellFormed (p.0 ∷ p.1) =
+                (all_split IsWellFormed (flat_map spelled r.uses) (p.0 ∷ p.1)
+                (subst (AllByRecursion IsWellFormed) whole passes)).1 in
                 let below = sym (below_is words p.1 k.0 c k.2 found).0 ∙ r.below_none in
                 let r2 = level_read (own_level c.0) c.1 (each p.0 c f) p.1 false [] back.1 below in
                 by_own whole r2 r2.tail refl

@@ -1,5 +1,5 @@
 pub mod Grammar
-pub mod Passes
+pub mod WellFormed
 pub mod Tables
 pub mod Built
 pub mod Said

@@ -9,11 +9,11 @@ mod app;
 mod command;
 mod laws;
 mod line;
-mod passing;
 mod read;
 mod request;
 mod table;
 mod values;
+mod well_formed;
 
 pub use laws::one_request;
 pub use read::read_words;

@@ -4,13 +4,13 @@ ghost use Rattle.std.specs.List.{AllByRecursion};
 ghost use Rattle.clap.specs.Words.{found_of};
 ghost use Rattle.clap.specs.Walk.{first_of, one_of, rows_of};
 ghost use Rattle.med_words.specs.Grammar.{Text, Use, IsLine};
-ghost use Rattle.med_words.specs.Passes.{Passes};
+ghost use Rattle.med_words.specs.WellFormed.{IsWellFormed};
 ghost use Rattle.med_words.specs.Matched.{IsMatched, FlagRow, main_rows, own_rows};
 ghost use Rattle.med_words.specs.Tables.{main_options, commands};
 ghost use Rattle.med_words.specs.Views.{main_view, own_view, HasLine};
 
 use crate::app::command;
-use crate::passing::all_pass;
+use crate::well_formed::are_well_formed;
 use clap::ArgMatches;
 use clap::error::ErrorKind;
 use std::alloc::Global;
@@ -56,7 +56,7 @@ pub(crate) enum LineError {
 
 /// The matches of words of which each may be handed on.
 fn matched<'a>(alloc: Global, words: &'a [String]) -> Result<ArgMatches<'a>, LineError>
-    requires { AllByRecursion Passes (map string_bytes words.now) }
+    requires { AllByRecursion IsWellFormed (map string_bytes words.now) }
     ensures ok { IfOk result
         (λ m. IsMatched main_options commands (map string_bytes words.entry.now) m) }
     ensures line { IsErrOf result LineError.Line → (main own : List Use) (word : Text)
@@ -144,7 +144,7 @@ pub(crate) fn read_line<'a>(alloc: Global, words: &'a [String]) -> Result<Line<'
     ensures line { IsErrOf result LineError.Line → (main own : List Use) (word : Text)
         → IsLine main_options commands (map string_bytes words.entry.now) main word own → ⊥ }
 {
-    if !all_pass(words) {
+    if !are_well_formed(words) {
         return Err(LineError::Line);
     }
     match matched(alloc, words) {

@@ -2,16 +2,16 @@ use Rattle.std.proofs.Common.{◌≡◌, ◌∙◌, Err, ap, sym, true≢false, 
 use Rattle.med_words.specs.declared.line.LineError.TheVariants.{Line}
 use Rattle.med_words.specs.Tables.{main_options, commands}
 use Rattle.med_words.proofs.Exact.{options_table}
-use Rattle.med_words.proofs.FirstLook.{line_passes, command_passes}
+use Rattle.med_words.proofs.FirstLook.{well_formed_line, well_formed_command}
 use Rattle.med_words.proofs.TheTables.{main_table, all_tables, all_names}
 use Rattle.med_words.proofs.line.read_line.Goals as goal
 
-pub returns-then-not-all_pass-clause-line : goal.returns-then-not-all_pass-clause-line
-returns-then-not-all_pass-clause-line c _ main own word s =
-    true≢false (sym (c.all_pass.ensures.value.1
-    (line_passes main_options commands main_table (options_table commands all_tables)
-    (command_passes commands all_names) (map string_bytes c.args.words.now) main word own s))
-    ∙ c.if-not-all_pass.true)
+pub returns-then-not-are_well_formed-clause-line : goal.returns-then-not-are_well_formed-clause-line
+returns-then-not-are_well_formed-clause-line c _ main own word s =
+    true≢false (sym (c.are_well_formed.ensures.value.1
+    (well_formed_line main_options commands main_table (options_table commands all_tables)
+    (well_formed_command commands all_names) (map string_bytes c.args.words.now) main word own s))
+    ∙ c.if-not-are_well_formed.true)
 
 pub returns-in-Err-clause-line : goal.returns-in-Err-clause-line
 returns-in-Err-clause-line c is =

@@ -9,12 +9,12 @@ abbrev pub EndsWell : Text → Type 0
 EndsWell rest = has_byte 61 rest ≡ true → 0 < length (after_first (λ x. x == 61) rest)
 
 -- what stands behind a hyphen: a second one, and more that ends well
-abbrev pub HyphenPasses : Text → Type 0
-HyphenPasses [] = ⊥
-HyphenPasses (y ∷ []) = ⊥
-HyphenPasses (y ∷ z ∷ zs) = (y ≡ 45) × EndsWell (z ∷ zs)
+abbrev pub IsRestOfOption : Text → Type 0
+IsRestOfOption [] = ⊥
+IsRestOfOption (y ∷ []) = ⊥
+IsRestOfOption (y ∷ z ∷ zs) = (y ≡ 45) × EndsWell (z ∷ zs)
 
--- a word that isn't empty, and that passes where it begins with a hyphen
-abbrev pub Passes : Text → Type 0
-Passes [] = ⊥
-Passes (x ∷ xs) = x ≡ 45 → HyphenPasses xs
+-- a word that isn't empty, and is an option where it begins with a hyphen
+abbrev pub IsWellFormed : Text → Type 0
+IsWellFormed [] = ⊥
+IsWellFormed (x ∷ xs) = x ≡ 45 → IsRestOfOption xs

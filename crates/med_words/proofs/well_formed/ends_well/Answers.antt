@@ -3,7 +3,7 @@ use Rattle.std.specs.List.{position, position_or_len, after_first}
 use Rattle.std.proofs.lemmas.Option.{cond_some}
 use Rattle.clap.specs.Lexer.{has_byte}
 use Rattle.med_base.proofs.Options.{cond_none}
-use Rattle.med_words.proofs.passing.ends_well.Goals as goal
+use Rattle.med_words.proofs.well_formed.ends_well.Goals as goal
 
 abbrev eq61 : ℕ → Bool
 eq61 x = x == 61

@@ -1,12 +1,12 @@
 // What is asked of each word before clap reads it.
 ghost use Rattle.std.specs.Prelude.{◌≡◌, ◌<◌, ◌==◌, ◌↔◌, IsTrue, map, length, position, string_bytes};
 ghost use Rattle.std.specs.List.{AllByRecursion};
-ghost use Rattle.med_words.specs.Passes.{Passes, EndsWell};
+ghost use Rattle.med_words.specs.WellFormed.{IsWellFormed, EndsWell};
 
 /// The word may be handed on: it isn't empty, behind a hyphen stands a second one and more, and
 /// behind a first `=` stands something.
-fn passes(word: &str) -> bool
-    ensures value { IsTrue result ↔ Passes word.now }
+fn is_well_formed(word: &str) -> bool
+    ensures value { IsTrue result ↔ IsWellFormed word.now }
 {
     match word.as_bytes() {
         [] => false,
@@ -33,11 +33,11 @@ fn first_equals(rest: &[u8]) -> Option<usize>
 }
 
 /// Each word may be handed on.
-pub(crate) fn all_pass(words: &[String]) -> bool
-    ensures value { IsTrue result ↔ AllByRecursion Passes (map string_bytes words.now) }
+pub(crate) fn are_well_formed(words: &[String]) -> bool
+    ensures value { IsTrue result ↔ AllByRecursion IsWellFormed (map string_bytes words.now) }
 {
     match words {
         [] => true,
-        [first, rest @ ..] => passes(first.as_str()) && all_pass(rest),
+        [first, rest @ ..] => is_well_formed(first.as_str()) && are_well_formed(rest),
     }
 }
