@@ -5,6 +5,7 @@
 //! Read `specs/Names.antt` and `specs/Layout.antt` first.
 #![tactic(auto)]
 
+mod added;
 mod builders;
 mod classify;
 mod component;
@@ -13,6 +14,7 @@ mod decimal;
 mod digest;
 mod entries;
 mod fingerprint;
+mod flow;
 mod key;
 mod kinds;
 mod laws;
@@ -28,6 +30,7 @@ pub use cut::cut_at;
 pub use decimal::decimal_in;
 pub use digest::{BadDigest, read_md5};
 pub use fingerprint::{Fingerprint, md5_text};
+pub use flow::Flow;
 pub use key::FileKey;
 pub use kinds::{IndexKind, LatestKind, PathKind};
 pub use laws::builders_and_kinds;

@@ -10,8 +10,8 @@ fn has_digest(alloc: Global, row: &str) -> Option<bool> {
     Some(size == text.len() as u64 && told.as_str() == digest)
 }
 
-// RFC 1321, A.5.
-const DIGESTS: &str = "\
+/// The examples of RFC 1321, A.5: TEXT|DIGEST.
+pub(crate) const DIGESTS: &str = "\
 |d41d8cd98f00b204e9800998ecf8427e
 a|0cc175b9c0f1b6a831c399e269772661
 abc|900150983cd24fb0d6963f7d28e17f72

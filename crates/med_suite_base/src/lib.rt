@@ -11,6 +11,8 @@ mod cells;
 #[cfg(test)]
 mod digests;
 #[cfg(test)]
+mod flow;
+#[cfg(test)]
 mod json;
 #[cfg(test)]
 mod kinds;
