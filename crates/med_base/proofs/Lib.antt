@@ -2,6 +2,7 @@ pub mod DecimalLemmas
 pub mod Base64Lemmas
 pub mod Bools
 pub mod Cuts
+pub mod DataLaw
 pub mod EntryLemmas
 pub mod Folders
 pub mod KindsLaw

@@ -1,6 +1,6 @@
 -- The kind of each path, by its components: the texts between its slashes.
 -- The other way round than the builders; `specs/KindOf.antt` says in which sense.
-use Rattle.std.specs.Prelude.{ℕ, Bool, ◌&&◌, List, [], ◌∷◌, Option, Some, None, is_none, unwrap_or, option_map, option_and_then, if◌then◌else◌, codes, bytes_eq, find}
+use Rattle.std.specs.Prelude.{ℕ, Bool, true, false, ◌&&◌, List, [], ◌∷◌, Option, Some, None, is_none, unwrap_or, option_map, option_and_then, if◌then◌else◌, codes, bytes_eq, find}
 use Rattle.med_base.specs.declared.key.FileKey.{FileKey}
 use Rattle.med_base.specs.declared.layout.MetaKind.{MetaKind}
 use Rattle.med_base.specs.declared.layout.MetaKind.TheVariants as meta
@@ -98,3 +98,17 @@ kind_below (part ∷ rest) =
 abbrev pub kind_of : List ℕ → List ℕ → Kind
 kind_of before path = unwrap_or (option_map (λ text. kind_below (parts text)) (behind before path))
     Other
+
+-- the kinds of data objects: the files that backups hold, shared ones and their own
+abbrev pub is_data_kind : Kind → Bool
+is_data_kind (Shared f key) = true
+is_data_kind (Own f n key) = true
+is_data_kind (Meta f n kind) = false
+is_data_kind (Entry f n kind) = false
+is_data_kind (Latest f kind) = false
+is_data_kind (Stray f n) = false
+is_data_kind Other = false
+
+-- whether a path is that of a data object under a layout; `DataPaths.antt` says it by builders
+abbrev pub is_data : List ℕ → List ℕ → Bool
+is_data before path = is_data_kind (kind_of before path)

@@ -1,6 +1,7 @@
 pub mod Classify
 pub mod Content
 pub mod Cut
+pub mod DataPaths
 pub mod Decimal
 pub mod Digest
 pub mod Entries

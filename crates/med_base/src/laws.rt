@@ -1,4 +1,5 @@
 // What the builders and `classify` say of each other.
+ghost use Rattle.med_base.specs.DataPaths.{DataIsTold, BuildersOfData};
 ghost use Rattle.med_base.specs.KindRelation.{KindsAreTold, BuiltIsTold, PathsAreApart};
 ghost use Rattle.med_base.specs.Part.{OwnersAreTold};
 
@@ -11,4 +12,12 @@ pub fn builders_and_kinds()
     ensures built { BuiltIsTold }
     ensures apart { PathsAreApart }
     ensures owners { OwnersAreTold }
+{}
+
+/// A law: a path is that of a data object exactly where the builder of a shared file or that of a
+/// backup's own file gives it. What the builders of other paths give is no data: the objects that
+/// tell of a backup, the entries of the index, and what tells of the latest backup.
+pub fn builders_and_data()
+    ensures told { DataIsTold }
+    ensures built { BuildersOfData }
 {}

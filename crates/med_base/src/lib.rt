@@ -33,7 +33,7 @@ pub use fingerprint::{Fingerprint, md5_text};
 pub use flow::Flow;
 pub use key::FileKey;
 pub use kinds::{IndexKind, LatestKind, PathKind};
-pub use laws::builders_and_kinds;
+pub use laws::{builders_and_data, builders_and_kinds};
 pub use layout::{Layout, MetaKind};
 pub use memory::NoMemory;
 pub use names::{BackupName, Fqdn, NameError};

@@ -2,7 +2,8 @@
 use crate::kinds::kind_words;
 use crate::values::key_of;
 use med_base::{
-    BackupName, FileKey, Fqdn, Layout, NoMemory, ObjPath, PathKind, builders_and_kinds,
+    BackupName, FileKey, Fqdn, Layout, NoMemory, ObjPath, PathKind, builders_and_data,
+    builders_and_kinds,
 };
 use std::alloc::Global;
 use std::test::Fail;
@@ -81,6 +82,7 @@ fn first_wrong(alloc: Global, layout: &Layout, before: &str) -> Option<&'static 
 #[test]
 fn every_path_that_is_built_comes_back(rt: HostRuntime) -> Result<(), Fail> {
     builders_and_kinds();
+    builders_and_data();
     for (prefix, before) in [("", ""), ("a b/ü", "a b/ü/")] {
         let layout = Layout::new(rt.alloc(), prefix)?;
         assert_eq!(rt;
