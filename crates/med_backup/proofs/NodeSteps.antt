@@ -1,5 +1,5 @@
 -- How the work on a node ends, out of its parts.
-use Rattle.std.proofs.Common.{◌≡◌, ◌≤◌, ◌+◌, ◌-◌, ◌^◌, min, ℕ, List, [], Option, ◌∙◌, subst, arith, Result, Ok, Err, OnOk}
+use Rattle.std.proofs.Common.{◌≡◌, ◌≤◌, ◌+◌, ◌-◌, ◌^◌, min, ℕ, List, [], Option, sym, ◌∙◌, subst, arith, Result, Ok, Err, OnOk}
 use Rattle.med_base.specs.declared.key.FileKey.{FileKey}
 use Rattle.med_base.specs.Content.{Content}
 use Rattle.med_manifest.specs.declared.manifest.FileRecord.{FileRecord}
@@ -10,7 +10,7 @@ use Rattle.med_outside.specs.World.{NodesState, rose_of_node}
 use Rattle.med_outside.proofs.Passing.{moves_on, after_all-nothing}
 use Rattle.med_backup.specs.BackedUp.{IsFound, IsCopied, IsBackedUpFrom}
 use Rattle.med_backup.specs.Copies.{backup_puts}
-use Rattle.med_backup.specs.Plan.{ChangeLists, IsMadeBy, Left, Unopened, Opened, Worked, LeavesOpen, LeavesNode}
+use Rattle.med_backup.specs.Plan.{ChangeLists, IsMadeBy, Left, Leaves}
 use Rattle.med_backup.specs.NodeConfig.{NodeConfig, opened_at}
 
 -- what holds holds after a good answer
@@ -51,16 +51,16 @@ made_later s0 s1 s2 p0 p1 p2 first made (xs, is, moves) =
     (xs, is, moves_on [] xs s0 s1 s2 p0 p1 p2 first moves)
 
 -- what is left over a bucket that was opened first
-pub left_later : (node_config : NodeConfig) (n : List ℕ) (nodes nodes_now : NodesState)
-    (s0 s1 s2 : State)
+pub left_later : (node_config : NodeConfig) (nodes nodes_now : NodesState) (s0 s1 s2 : State)
     (p0 p1 p2 : History) → ChangesWithin [] (opened_at node_config s0) s1 p0 p1 → (left : Left)
-    → LeavesOpen node_config n nodes nodes_now s1 s2 p1 p2 left
-    → LeavesNode node_config n nodes nodes_now s0 s2 p0 p2 left
-left_later node_config n nodes nodes_now s0 s1 s2 p0 p1 p2 first Unopened h = absurd h
-left_later node_config n nodes nodes_now s0 s1 s2 p0 p1 p2 first Opened (moves, counts) =
-    (moves_on [] [] (opened_at node_config s0) s1 s2 p0 p1 p2 first moves, counts)
-left_later node_config n nodes nodes_now s0 s1 s2 p0 p1 p2 first (Worked made) (left, counts) =
-    (made_later (opened_at node_config s0) s1 s2 p0 p1 p2 first made left, counts)
+    → (left.bucket ≡ opened_at node_config) × IsMadeBy s1 s2 p1 p2 left.made
+    × (nodes_now.counts ≡ left.counts nodes.counts)
+    → Leaves nodes nodes_now s0 s2 p0 p2 left
+left_later node_config nodes nodes_now s0 s1 s2 p0 p1 p2 first left (is, made, counts) = (
+  subst (λ (bucket : State → State). IsMadeBy (bucket s0) s2 p0 p2 left.made) (sym is)
+      (made_later (opened_at node_config s0) s1 s2 p0 p1 p2 first left.made made),
+  counts,
+)
 
 module _ (before f n : List ℕ) (held : Option Snapshot) where
   pub copied_after : (order : List FileKey) (schema : List ℕ) (s0 s1 s2 : State)

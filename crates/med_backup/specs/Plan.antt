@@ -8,7 +8,7 @@ use Rattle.med_base.specs.Content.{Content}
 use Rattle.med_base.specs.Key.{AreRising, IsKey}
 use Rattle.med_base.specs.Layout.{backup_folder, meta_path}
 use Rattle.med_manifest.specs.declared.manifest.FileRecord.{FileRecord}
-use Rattle.med_outside.specs.Counts.{Tagged, tagged, opened_once}
+use Rattle.med_outside.specs.Counts.{SnapshotCounts, Tagged, tagged, opened_once}
 use Rattle.med_outside.specs.Effects.{Effect, Stores}
 use Rattle.med_outside.specs.Ends.{Device, Nodes, Storage, Memory, Refusal, Taken, NoSnapshot, BadFileName, Stop, Refused, Failed, Plan, last, step, then, said_as}
 use Rattle.med_outside.specs.Snapshot.{Snapshot}
@@ -143,26 +143,46 @@ abbrev pub snapshot_plan : (before f n : List ℕ) → Option Snapshot → Optio
 snapshot_plan before f n held told =
     then (look_plan before f n held told) (λ found. copy_plan before f n held found.0 found.1)
 
--- what the work on a node leaves
-pub data Left : Type 1 where
-  -- the bucket isn't open yet, and nothing changed
-  Unopened : Left
-  -- the bucket is open, no snapshot was opened, and nothing changed
-  Opened : Left
-  -- the snapshot was opened and closed, and one of these lists of changes was made
-  Worked : ChangeLists → Left
+-- what the work on a node leaves: what the bucket is that the storage opened, which snapshots were
+-- counted as opened and as closed, and the lists of changes of which one was made
+pub record Left : Type 1 where
+  pub bucket : State → State
+  pub counts : SnapshotCounts → SnapshotCounts
+  pub made : ChangeLists
+
+-- no bucket was opened, no snapshot was, and nothing changed
+abbrev pub unopened : Left
+unopened = record { bucket = λ s. s; counts = λ c. c; made = IsNothing }
+
+-- the bucket was opened, no snapshot was, and nothing changed
+abbrev pub bucket_opened : NodeConfig → Left
+bucket_opened node_config =
+    record { bucket = opened_at node_config; counts = λ c. c; made = IsNothing }
+
+-- what is opened for the backup
+abbrev pub tagged_at : NodeConfig → List ℕ → Tagged
+tagged_at node_config n = tagged node_config.nodes_root node_config.node (tag_of n)
+
+-- the bucket was opened, the snapshot was opened and closed, and one of these lists was made
+abbrev pub worked : NodeConfig → List ℕ → ChangeLists → Left
+worked node_config n made = record {
+  bucket = opened_at node_config;
+  counts = opened_once (tagged_at node_config n);
+  made = made;
+}
 
 -- the work on a node whose bucket is open
 abbrev pub opened_plan : NodeConfig → List ℕ → Snapshots → Option Content
     → Plan Left (List FileRecord)
 opened_plan node_config n snaps told =
-    step {T = Unit {0}} Passed on_nodes Opened (λ _. said_as Worked
+    step {T = Unit {0}} Passed on_nodes (bucket_opened node_config) (λ _.
+    said_as (worked node_config n)
     (snapshot_plan node_config.before node_config.node n (snap_at snaps node_config n) told))
 
 abbrev pub node_plan : NodeConfig → List ℕ → Snapshots → Option Content
     → Plan Left (List FileRecord)
 node_plan node_config n snaps told =
-    step {T = Unit {0}} Passed on_storage Unopened (λ _. opened_plan node_config n snaps told)
+    step {T = Unit {0}} Passed on_storage unopened (λ _. opened_plan node_config n snaps told)
 
 -- ---- what the words mean
 
@@ -172,31 +192,12 @@ abbrev pub IsMadeBy : (old new : State) → (stood_before stood_after : History)
 IsMadeBy old new stood_before stood_after made = (xs : List Effect) × made xs
     × ChangesWithin xs old new stood_before stood_after
 
--- what is opened for the backup
-abbrev pub tagged_at : NodeConfig → List ℕ → Tagged
-tagged_at node_config n = tagged node_config.nodes_root node_config.node (tag_of n)
-
--- over a bucket that is open
-abbrev pub LeavesOpen : NodeConfig → List ℕ → (nodes nodes_now : NodesState) → (old new : State)
+-- this is left: one of its lists was made over the bucket that it says, and the counts are its own
+abbrev pub Leaves : (nodes nodes_now : NodesState) → (old new : State)
     → (stood_before stood_after : History) → Left → Type 0
-LeavesOpen node_config n nodes nodes_now old new stood_before stood_after Unopened = ⊥
-LeavesOpen node_config n nodes nodes_now old new stood_before stood_after Opened =
-    ChangesWithin [] old new stood_before stood_after × (nodes_now.counts ≡ nodes.counts)
-LeavesOpen node_config n nodes nodes_now old new stood_before stood_after (Worked made) =
-    IsMadeBy old new stood_before stood_after made
-    × (nodes_now.counts ≡ opened_once (tagged_at node_config n) nodes.counts)
-
--- over a bucket that is opened in the first step
-abbrev pub LeavesNode : NodeConfig → List ℕ → (nodes nodes_now : NodesState) → (old new : State)
-    → (stood_before stood_after : History) → Left → Type 0
-LeavesNode node_config n nodes nodes_now old new stood_before stood_after Unopened =
-    ChangesWithin [] old new stood_before stood_after × (nodes_now.counts ≡ nodes.counts)
-LeavesNode node_config n nodes nodes_now old new stood_before stood_after Opened =
-    LeavesOpen node_config n nodes nodes_now (opened_at node_config old) new stood_before
-    stood_after Opened
-LeavesNode node_config n nodes nodes_now old new stood_before stood_after (Worked made) =
-    LeavesOpen node_config n nodes nodes_now (opened_at node_config old) new stood_before
-    stood_after (Worked made)
+Leaves nodes nodes_now old new stood_before stood_after left =
+    IsMadeBy (left.bucket old) new stood_before stood_after left.made
+    × (nodes_now.counts ≡ left.counts nodes.counts)
 
 -- ---- the errors of the code
 

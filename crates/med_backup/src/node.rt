@@ -4,7 +4,7 @@ ghost use Rattle.med_outside.specs.Counts.{opened_once};
 ghost use Rattle.med_outside.specs.Ends.{Ends, seen};
 ghost use Rattle.med_outside.specs.World.{rose_of_node};
 ghost use Rattle.med_backup.specs.BackedUp.{IsBackedUpFrom};
-ghost use Rattle.med_backup.specs.Plan.{IsMadeBy, LeavesOpen, LeavesNode, snapshot_plan, opened_plan, node_plan, stop_of, tagged_at};
+ghost use Rattle.med_backup.specs.Plan.{IsMadeBy, Left, Leaves, snapshot_plan, opened_plan, node_plan, stop_of, tagged_at};
 ghost use Rattle.med_backup.specs.NodeConfig.{node_config_of, opened_at, snap_at};
 
 use crate::copy::copy_found;
@@ -56,8 +56,10 @@ fn backup_opened<S: Storage, N: Nodes>(
         (S.state store.new) (S.stood_since store.old) (S.stood_since store.new) files.items) }
     ensures ends { Ends (rose_of_node (N.state nodes.old).faults (N.state nodes.new).faults
         (S.state store.old).faults (S.state store.new).faults)
-        (LeavesOpen (node_config_of config.now) name.now (N.state nodes.old) (N.state nodes.new)
-        (S.state store.old) (S.state store.new) (S.stood_since store.old) (S.stood_since store.new))
+        (λ (left : Left). (left.bucket ≡ opened_at (node_config_of config.now))
+        × IsMadeBy (S.state store.old) (S.state store.new) (S.stood_since store.old)
+        (S.stood_since store.new) left.made
+        × ((N.state nodes.new).counts ≡ left.counts (N.state nodes.old).counts))
         (opened_plan (node_config_of config.now) name.now (N.state nodes.old).snaps
         (S.state store.old).content) (seen (λ files. files.items) (stop_of name.now) result) }
     ensures snapshot { OnOk result ((N.state nodes.new).counts
@@ -95,8 +97,8 @@ pub fn backup_node<S: Storage, N: Nodes>(
         (S.state store.new) (S.stood_since store.old) (S.stood_since store.new) files.items) }
     ensures ends { Ends (rose_of_node (N.state nodes.old).faults (N.state nodes.new).faults
         (S.state store.old).faults (S.state store.new).faults)
-        (LeavesNode (node_config_of config.now) name.now (N.state nodes.old) (N.state nodes.new)
-        (S.state store.old) (S.state store.new) (S.stood_since store.old) (S.stood_since store.new))
+        (Leaves (N.state nodes.old) (N.state nodes.new) (S.state store.old) (S.state store.new)
+        (S.stood_since store.old) (S.stood_since store.new))
         (node_plan (node_config_of config.now) name.now (N.state nodes.old).snaps
         (S.state store.old).content) (seen (λ files. files.items) (stop_of name.now) result) }
     ensures snapshot { OnOk result ((N.state nodes.new).counts

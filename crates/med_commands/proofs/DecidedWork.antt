@@ -6,7 +6,7 @@ use Rattle.med_base.specs.Layout.{backup_folder}
 use Rattle.med_base.specs.declared.key.FileKey.{FileKey}
 use Rattle.med_base.specs.Key.{IsKey}
 use Rattle.med_base.proofs.Lists.{not_all}
-use Rattle.med_backup.specs.Plan.{ChangeLists, Left, Worked, LeavesNode, Walks, FindsFree, copy_plan, snapshot_plan, node_plan}
+use Rattle.med_backup.specs.Plan.{ChangeLists, Left, Leaves, worked, Walks, FindsFree, copy_plan, snapshot_plan, node_plan}
 use Rattle.med_backup.specs.NodeConfig.{NodeConfig, snap_at}
 use Rattle.med_backup.specs.Taken.{first_path}
 use Rattle.med_backup.specs.Walked.{CanBeWalked, IsFirstBad}
@@ -69,7 +69,7 @@ module _ (node_config : NodeConfig) (n : List ℕ) (a b : World) where
   -- what is left of the work, in words of the command
   abbrev word : Left → Type 0
   word left =
-      LeavesNode node_config n a.nodes b.nodes a.store b.store a.stood b.stood left × IsSilent a b
+      Leaves a.nodes b.nodes a.store b.store a.stood b.stood left × IsSilent a b
 
   -- what follows the work
   abbrev ending : List FileRecord → Plan (Type 0) (Unit {0})
@@ -77,7 +77,7 @@ module _ (node_config : NodeConfig) (n : List ℕ) (a b : World) where
 
   -- a part of the work on the open snapshot, and what follows it
   abbrev part : Plan ChangeLists (List FileRecord) → Plan (Type 0) (Unit {0})
-  part p = then (said_as word (said_as Worked p)) ending
+  part p = then (said_as word (said_as (worked node_config n) p)) ending
 
   -- the objects under the folder of the name
   abbrev under : Content → List (List ℕ × Object)

@@ -3,7 +3,7 @@
 use Rattle.std.specs.Prelude.{◌≡◌, ℕ, List, [], ◌∷◌, Option, IfSome, Result, Ok, Err}
 use Rattle.med_base.specs.Content.{Content}
 use Rattle.med_backup.specs.Backup.{FinishesBackup, IsBackupOf}
-use Rattle.med_backup.specs.Plan.{Passed, Left, LeavesNode, node_plan, tagged_at}
+use Rattle.med_backup.specs.Plan.{Passed, Left, Leaves, node_plan, tagged_at}
 use Rattle.med_backup.specs.BackedUp.{IsBackedUpFrom}
 use Rattle.med_backup.specs.NodeConfig.{NodeConfig, node_config_of, opened_at, snap_at}
 use Rattle.med_backup.specs.Taken.{IsFree}
@@ -103,9 +103,8 @@ prints line done a b =
 abbrev pub backup_plan : Asked → List ℕ → (a b : World) → Plan (Type 0) (Unit {0})
 backup_plan asked n a b =
     step (ReadsConfig a.files.contents asked) on_files (IsUntouched a b) (λ node_config.
-    then (said_as (λ (left : Left). LeavesNode node_config n a.nodes b.nodes a.store b.store a.stood
-    b.stood
-    left × IsSilent a b) (node_plan node_config n a.nodes.snaps a.store.content)) (λ files.
+    then (said_as (λ (left : Left). Leaves a.nodes b.nodes a.store b.store a.stood b.stood left
+    × IsSilent a b) (node_plan node_config n a.nodes.snaps a.store.content)) (λ files.
     prints (report_line n node_config.node files) (IsDone node_config n a b files) a b))
 
 -- a command that isn't built yet

@@ -1,4 +1,4 @@
-use Rattle.std.proofs.Common.{[], inr, Vec, Global, arith}
+use Rattle.std.proofs.Common.{◌≡◌, [], inr, Vec, Global, arith}
 use Rattle.std.proofs.lemmas.Result.{IfOk-weaker}
 use Rattle.med_backup.proofs.Denials.{good}
 use Rattle.med_backup.proofs.NodeSteps.{later_rose, left_later}
@@ -8,7 +8,7 @@ use Rattle.med_outside.specs.State.{ChangesWithin}
 use Rattle.med_outside.specs.World.{rose_of_node}
 use Rattle.med_outside.proofs.EndsLemmas.{carried}
 use Rattle.med_backup.specs.BackedUp.{IsBackedUpFrom}
-use Rattle.med_backup.specs.Plan.{LeavesOpen, LeavesNode, opened_plan, stop_of}
+use Rattle.med_backup.specs.Plan.{IsMadeBy, Left, Leaves, opened_plan, stop_of}
 use Rattle.med_backup.specs.NodeConfig.{node_config_of, opened_at, snap_at}
 use Rattle.med_backup.proofs.NodeSteps.{same_content, made_after}
 use Rattle.med_backup.proofs.node.backup_node.Goals as goal
@@ -72,17 +72,18 @@ returns-clause-ends g c =
           (g.S.Storage.state c.open-opened.new.self).faults
           (g.S.Storage.state c.backup_opened.new.store).faults (omega arith)
           c.open-opened.ensures.cause.later)
-          (LeavesOpen node_config c.args.name.now (g.N.Nodes.state c.args.nodes.now)
-          (g.N.Nodes.state c.backup_opened.new.nodes) (g.S.Storage.state c.open-opened.new.self)
+          (λ (left : Left). (left.bucket ≡ opened_at node_config)
+          × IsMadeBy (g.S.Storage.state c.open-opened.new.self)
           (g.S.Storage.state c.backup_opened.new.store)
           (g.S.Storage.stood_since c.open-opened.new.self)
-          (g.S.Storage.stood_since c.backup_opened.new.store))
-          (LeavesNode node_config c.args.name.now (g.N.Nodes.state c.args.nodes.now)
-          (g.N.Nodes.state c.backup_opened.new.nodes) (g.S.Storage.state c.args.store.now)
-          (g.S.Storage.state c.backup_opened.new.store)
+          (g.S.Storage.stood_since c.backup_opened.new.store) left.made
+          × ((g.N.Nodes.state c.backup_opened.new.nodes).counts
+          ≡ left.counts (g.N.Nodes.state c.args.nodes.now).counts))
+          (Leaves (g.N.Nodes.state c.args.nodes.now) (g.N.Nodes.state c.backup_opened.new.nodes)
+          (g.S.Storage.state c.args.store.now) (g.S.Storage.state c.backup_opened.new.store)
           (g.S.Storage.stood_since c.args.store.now)
           (g.S.Storage.stood_since c.backup_opened.new.store))
-          (left_later node_config c.args.name.now (g.N.Nodes.state c.args.nodes.now)
+          (left_later node_config (g.N.Nodes.state c.args.nodes.now)
           (g.N.Nodes.state c.backup_opened.new.nodes) (g.S.Storage.state c.args.store.now)
           (g.S.Storage.state c.open-opened.new.self) (g.S.Storage.state c.backup_opened.new.store)
           (g.S.Storage.stood_since c.args.store.now) (g.S.Storage.stood_since

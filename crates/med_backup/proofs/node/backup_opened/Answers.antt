@@ -3,8 +3,8 @@ use Rattle.med_outside.specs.Counts.{tagged, with_closed, opened_once}
 use Rattle.med_outside.specs.Ends.{seen}
 use Rattle.med_outside.specs.World.{rose_of_node}
 use Rattle.med_outside.proofs.EndsLemmas.{carried_as}
-use Rattle.med_backup.specs.Plan.{ChangeLists, IsMadeBy, LeavesOpen, Worked, snapshot_plan, stop_of}
-use Rattle.med_backup.specs.NodeConfig.{node_config_of, snap_at, tag_of}
+use Rattle.med_backup.specs.Plan.{ChangeLists, IsMadeBy, Left, worked, snapshot_plan, stop_of}
+use Rattle.med_backup.specs.NodeConfig.{node_config_of, opened_at, snap_at, tag_of}
 use Rattle.med_backup.proofs.Denials.{value_of, counts_of}
 use Rattle.med_backup.proofs.NodeSteps.{closed_rose, on_ok}
 use Rattle.med_backup.proofs.node.backup_opened.Goals as goal
@@ -57,13 +57,15 @@ returns-clause-ends g c =
           c.in_ok-snap.ensures.variant
           c.in_ok-snap.ensures.cases c.open-opened.ensures.fresh) c.close.ensures.faults)
           made
-          (LeavesOpen node_config c.args.name.now (g.N.Nodes.state c.args.nodes.now)
-          (g.N.Nodes.state c.close.new.self) (g.S.Storage.state c.args.store.now)
+          (λ (left : Left). (left.bucket ≡ opened_at node_config)
+          × IsMadeBy (g.S.Storage.state c.args.store.now)
           (g.S.Storage.state c.backup_snapshot-answer.new.store)
           (g.S.Storage.stood_since c.args.store.now)
-          (g.S.Storage.stood_since c.backup_snapshot-answer.new.store))
-          Worked
-          (λ (v : ChangeLists) h. (h, rw (c.as_str-root.ensures.value, tag) at counts))
+          (g.S.Storage.stood_since c.backup_snapshot-answer.new.store) left.made
+          × ((g.N.Nodes.state c.close.new.self).counts
+          ≡ left.counts (g.N.Nodes.state c.args.nodes.now).counts))
+          (worked node_config c.args.name.now)
+          (λ (v : ChangeLists) h. (refl, h, rw (c.as_str-root.ensures.value, tag) at counts))
           (snapshot_plan node_config.before node_config.node c.args.name.now
           (snap_at (g.N.Nodes.state c.args.nodes.now).snaps node_config c.args.name.now)
           (g.S.Storage.state c.args.store.now).content)

@@ -4,7 +4,7 @@ use Rattle.med_outside.specs.World.{world, rose_of, rose_of_node}
 use Rattle.med_outside.proofs.EndsLemmas.{carried_as, goes_on, stops_all}
 use Rattle.med_outside.proofs.Passing.{moves_at_rest}
 use Rattle.med_words.specs.Views.{asked_of}
-use Rattle.med_backup.specs.Plan.{Left, LeavesNode, node_plan, stop_of as stop_of_error}
+use Rattle.med_backup.specs.Plan.{Left, Leaves, node_plan, stop_of as stop_of_error}
 use Rattle.med_backup.specs.NodeConfig.{node_config_of}
 use Rattle.med_commands.specs.Fault.{stop_of, fault_of_load}
 use Rattle.med_commands.specs.Headline.{says}
@@ -48,8 +48,7 @@ returns-in-Err-backup_node-clause-ends g c =
     (g.O.Sink.state c.args.out.now)) in
     let node_config = node_config_of c.in-Ok-load.config in
     let low = rose_of_node a.nodes.faults b.nodes.faults a.store.faults b.store.faults in
-    let means = LeavesNode node_config c.args.name.now a.nodes b.nodes a.store b.store a.stood
-    b.stood in
+    let means = Leaves a.nodes b.nodes a.store b.store a.stood b.stood in
     let plan = node_plan node_config c.args.name.now a.nodes.snaps a.store.content in
     let word : Left → Type 0 = λ (left : Left). means left × IsSilent a b in
     let stop = stop_of_error c.args.name.now c.in-Err-backup_node.error in
@@ -77,8 +76,7 @@ returns-in-Ok-backup_node-clause-ends g c =
     let files = c.in-Ok-backup_node.records.items in
     let end = seen (λ (x : Unit {0}). x) stop_of c.print_line.result in
     let low = rose_of_node a.nodes.faults b.nodes.faults a.store.faults b.store.faults in
-    let means = LeavesNode node_config c.args.name.now a.nodes b.nodes a.store b.store a.stood
-    b.stood in
+    let means = Leaves a.nodes b.nodes a.store b.store a.stood b.stood in
     let plan = node_plan node_config c.args.name.now a.nodes.snaps a.store.content in
     let word : Left → Type 0 = λ (left : Left). means left × IsSilent a b in
     asked_plan (asked_of c.args.request.now) c.args.name.now a b end c.requires
