@@ -1,29 +1,22 @@
--- What all puts of a backup made, and what the manifest asks of the records.
-use Rattle.std.proofs.Common.{◌≡◌, ◌||◌, inr, ℕ, true, List, [], ◌∷◌, ◌++◌, map, Option, IfSome, refl, sym, ap, ◌∙◌, subst}
+-- Each key of a snapshot has a file, and what the manifest asks of the records of files.
+use Rattle.std.proofs.Common.{◌≡◌, ◌||◌, inr, ℕ, true, List, [], ◌∷◌, map, Option, IfSome, refl, sym, ap, ◌∙◌, subst}
 use Rattle.std.specs.Prelude.{IsTrue}
 use Rattle.std.specs.List.{AllByRecursion, list_any}
 use Rattle.std.specs.Ordering.{is_eq}
 use Rattle.std.specs.Cmp.{tied_itself}
 use Rattle.std.specs.FinMap.{FinMap, keys, contains_key, contains_key-keys}
 use Rattle.med_base.specs.declared.key.FileKey.{FileKey}
-use Rattle.med_base.specs.declared.layout.MetaKind.TheVariants.{Schema, Manifest}
 use Rattle.med_base.specs.Key.{key_cmp, key_eq, IsKey}
 use Rattle.med_base.specs.KeyOrder.{key_total}
-use Rattle.med_base.specs.Layout.{meta_path}
 use Rattle.med_manifest.specs.declared.manifest.FileRecord.{FileRecord}
-use Rattle.med_manifest.specs.Manifest.{IsManifest, IsPathOf}
-use Rattle.med_manifest.specs.Written.{manifest_text}
-use Rattle.med_outside.specs.Effects.{Stores}
+use Rattle.med_manifest.specs.Manifest.{IsPathOf}
+use Rattle.med_outside.specs.Effects.{Effect}
 use Rattle.med_outside.specs.Snapshot.{Snapshot, HasKey}
-use Rattle.med_outside.specs.State.{State, ChangesWithin, History}
-use Rattle.med_outside.proofs.Passing.{moves_on}
-use Rattle.med_backup.specs.BackedUp.{CanBeCopied, IsCopied}
-use Rattle.med_backup.specs.Copies.{Copy, put_of, records_of, backup_puts}
-use Rattle.med_backup.specs.Placing.{PlacesAll}
+use Rattle.med_backup.specs.Copies.{Copy, ArePut}
 use Rattle.std.proofs.lemmas.Bool.{or_right}
 use Rattle.std.proofs.lemmas.Option.{IfSome_then}
 use Rattle.med_base.proofs.Lists.{all_with, all_unmap}
-use Rattle.med_backup.proofs.Finished.{keys_of_records}
+use Rattle.med_backup.proofs.Finished.{records_of, keys_of_records}
 
 -- ---- each key of the snapshot has a file
 
@@ -50,77 +43,25 @@ pub all_have : (held : Option Snapshot) (order : List FileKey)
 all_have held order is = IfSome_then held is
     (λ s e. subst (AllByRecursion (λ k. HasKey k s)) (sym e) (all_contained s.files))
 
-module _ (before f n : List ℕ) (held : Option Snapshot) where
-  -- all puts but the last one, and the last
-  pub all_passed : (schema : List ℕ) (at : ℕ) (copies : List Copy) (end : ℕ) (s0 s1 s2 s3 : State)
-      (p0 p1 p2 p3 : History)
-      → ChangesWithin (Stores (meta_path before f n Schema) schema at ∷ []) s0 s1 p0 p1
-      → ChangesWithin (map (put_of before f n) copies) s1 s2 p1 p2
-      → ChangesWithin (Stores (meta_path before f n Manifest)
-      (manifest_text (records_of before f n copies))
-      end ∷ []) s2 s3 p2 p3
-      → ChangesWithin (backup_puts before f n schema at copies end) s0 s3 p0 p3
-  all_passed schema at copies end s0 s1 s2 s3 p0 p1 p2 p3 first files last =
-      moves_on (Stores (meta_path before f n Schema) schema at ∷ [])
-      (map (put_of before f n) copies ++ Stores (meta_path before f n Manifest)
-      (manifest_text (records_of before f n copies)) end ∷ [])
-      s0 s1 s3 p0 p1 p3 first
-      (moves_on (map (put_of before f n) copies)
-      (Stores (meta_path before f n Manifest) (manifest_text (records_of before f n copies)) end
-      ∷ []) s1 s2 s3 p1 p2 p3 files last)
+-- ---- what the manifest asks of the records
 
-  -- all puts were made
-  pub copied_all : (order : List FileKey) (schema : List ℕ) (at : ℕ) (files : List FileRecord)
-      (text : List ℕ) (end : ℕ) (s0 s1 s2 s3 : State) (p0 p1 p2 p3 : History)
-      → text ≡ manifest_text files → IsManifest before f n text files
-      → ChangesWithin (Stores (meta_path before f n Schema) schema at ∷ []) s0 s1 p0 p1
-      → PlacesAll before f n held order s1 s2 p1 p2 files
-      → ChangesWithin (Stores (meta_path before f n Manifest) text end ∷ []) s2 s3 p2 p3
-      → IsCopied before f n held order schema s0 s3 p0 p3 files
-  copied_all order schema at files text end s0 s1 s2 s3 p0 p1 p2 p3 text_is manifest first all
-      moves = record {
-        at = at;
-        copies = all.places.copies;
-        end = end;
-        keys_are = all.places.keys_are;
-        bytes_are = all.places.bytes_are;
-        files_are = all.files_are;
-        manifest_is = subst (λ (t : List ℕ). IsManifest before f n t files) text_is manifest;
-        moves = all_passed schema at all.places.copies end s0 s1 s2 s3 p0 p1 p2 p3 first
-            all.places.moves
-            (subst (λ (t : List ℕ). ChangesWithin (Stores (meta_path before f n Manifest) t end
-            ∷ []) s2 s3
-            p2
-            p3) (text_is ∙ ap manifest_text all.files_are) moves);
-      }
+own_paths : (before f n : List ℕ) (copies : List Copy)
+    → AllByRecursion (λ (r : FileRecord). IsPathOf before f n r.key r.path)
+    (records_of before f n copies)
+own_paths before f n [] = tt
+own_paths before f n (c ∷ copies) = (inr refl, own_paths before f n copies)
 
-  -- ---- what the manifest asks of the records
+module _ (before f n : List ℕ) (held : Option Snapshot) (order : List FileKey)
+    (files : List FileRecord) (xs : List Effect) (put : ArePut before f n held order files xs) where
+  pub files_keys : map (λ (r : FileRecord). r.key) files ≡ order
+  files_keys = ap (map (λ (r : FileRecord). r.key)) put.files_are
+      ∙ keys_of_records before f n put.copies ∙ put.keys_are
 
-  pub files_keys : (order : List FileKey) (s1 s2 : State) (p1 p2 : History)
-      (files : List FileRecord)
-      → PlacesAll before f n held order s1 s2 p1 p2 files
-      → map (λ (r : FileRecord). r.key) files ≡ order
-  files_keys order s1 s2 p1 p2 files all = ap (map (λ (r : FileRecord). r.key)) all.files_are
-      ∙ keys_of_records before f n all.places.copies ∙ all.places.keys_are
+  pub files_paths : AllByRecursion (λ (r : FileRecord). IsPathOf before f n r.key r.path) files
+  files_paths = subst (AllByRecursion (λ (r : FileRecord). IsPathOf before f n r.key r.path))
+      (sym put.files_are) (own_paths before f n put.copies)
 
-  own_paths : (copies : List Copy)
-      → AllByRecursion (λ (r : FileRecord). IsPathOf before f n r.key r.path)
-      (records_of before f n copies)
-  own_paths [] = tt
-  own_paths (c ∷ copies) = (inr refl, own_paths copies)
-
-  pub files_paths : (order : List FileKey) (s1 s2 : State) (p1 p2 : History)
-      (files : List FileRecord)
-      → PlacesAll before f n held order s1 s2 p1 p2 files
-      → AllByRecursion (λ (r : FileRecord). IsPathOf before f n r.key r.path) files
-  files_paths order s1 s2 p1 p2 files all =
-      subst (AllByRecursion (λ (r : FileRecord). IsPathOf before f n r.key r.path))
-      (sym all.files_are) (own_paths all.places.copies)
-
-  pub files_names : (order : List FileKey) (schema : List ℕ) (s1 s2 : State)
-      (p1 p2 : History) (files : List FileRecord)
-      → CanBeCopied held order schema → PlacesAll before f n held order s1 s2 p1 p2 files
+  pub files_names : AllByRecursion IsKey order
       → AllByRecursion (λ (r : FileRecord). IsKey r.key) files
-  files_names order schema s1 s2 p1 p2 files can all =
-      all_unmap (λ (r : FileRecord). r.key) IsKey files
-      (subst (AllByRecursion IsKey) (sym (files_keys order s1 s2 p1 p2 files all)) can.names)
+  files_names names = all_unmap (λ (r : FileRecord). r.key) IsKey files
+      (subst (AllByRecursion IsKey) (sym files_keys) names)

@@ -1,210 +1,120 @@
 -- How copying ends, step by step.
-use Rattle.std.proofs.Common.{◌≡◌, ◌⊎◌, inl, inr, ℕ, List, [], ◌∷◌, ◌++◌, map, Option, Ok, Err, refl, sym, ap, ◌∙◌, subst, append-nil, ◌≤◌, arith}
+use Rattle.std.proofs.Common.{◌≡◌, inl, inr, ℕ, List, Option, Ok, Err, refl, subst, ◌≤◌, arith}
 use Rattle.med_base.specs.declared.key.FileKey.{FileKey}
-use Rattle.med_base.specs.declared.layout.MetaKind.TheVariants.{Schema, Manifest}
+use Rattle.med_base.specs.declared.layout.MetaKind.TheVariants.{Manifest}
 use Rattle.med_base.specs.Layout.{meta_path}
 use Rattle.med_manifest.specs.declared.manifest.FileRecord.{FileRecord}
 use Rattle.med_manifest.specs.Written.{manifest_text}
-use Rattle.med_outside.specs.Effects.{Effect, Stores}
 use Rattle.med_outside.specs.Ends.{Device, Stop, StopsAt, Ends}
 use Rattle.med_outside.specs.Snapshot.{Snapshot}
-use Rattle.med_outside.specs.State.{State, ChangesWithin, History}
-use Rattle.med_outside.proofs.Passing.{moves_on}
-use Rattle.med_backup.specs.Copies.{put_of, backup_puts}
+use Rattle.med_outside.specs.State.{State, History}
 use Rattle.med_outside.specs.World.{rose_of_node}
-use Rattle.med_backup.specs.Placing.{IsCaused, PlacesAll, PlacesSome, MayStore}
+use Rattle.med_outside.proofs.Passing.{moves_at_rest}
+use Rattle.med_backup.specs.Copies.{ChangeLists, IsPut, OrNothing, IsMadeBy, IsSchemaPut, IsManifestPut, ArePut, AreFirstPut, HasFiles, HasAll}
+use Rattle.med_backup.specs.Errors.{device_of, stop_of_fault}
+use Rattle.med_backup.specs.Plan.{on_storage, on_both, Passed, Copies, copy_plan}
 use Rattle.med_backup.specs.declared.place.CopyFault.{CopyFault}
 use Rattle.med_backup.specs.declared.place.CopyFault.TheVariants.{Snap, Store, Memory}
-use Rattle.med_backup.specs.Plan.{on_storage, on_both, Passed, Copies, IsCopyOf, IsNothing, IsSchemaPut, IsBegun, HasFiles, HasAll, copy_plan, IsMadeBy, stop_of_fault}
-use Rattle.med_backup.proofs.Copied.{all_passed}
+use Rattle.med_backup.proofs.Made.{made_on, none_made}
 
 module _ (before f n : List ℕ) (held : Option Snapshot) (order : List FileKey) (schema : List ℕ)
-  where
-    abbrev schema_at : ℕ → Effect
-    schema_at at = Stores (meta_path before f n Schema) schema at
+    (rose : Device → Type 0) where
+  abbrev first : ChangeLists
+  first = IsSchemaPut before f n schema
 
-    abbrev manifest_at : List FileRecord → ℕ → Effect
-    manifest_at files at = Stores (meta_path before f n Manifest) (manifest_text files) at
+  abbrev files_put : List FileRecord → ChangeLists
+  files_put files = ArePut before f n held order files
 
-    copy_of : (files : List FileRecord) (s1 s2 : State) (p1 p2 : History)
-        (all : PlacesAll before f n held order s1 s2 p1 p2 files)
-        → IsCopyOf before f n held order files all.places.copies
-    copy_of files s1 s2 p1 p2 all = record {
-      keys_are = all.places.keys_are;
-      bytes_are = all.places.bytes_are;
-      files_are = all.files_are;
-    }
+  abbrev manifest_put : List FileRecord → ChangeLists
+  manifest_put files = IsManifestPut before f n files
 
-    -- ---- what each step leaves
+  -- the schema was put, and copying the files stopped
+  pub files_stopped : (stop : Stop) (s0 s1 s2 : State) (p0 p1 p2 : History)
+      → StopsAt rose (Copies before f n held order) on_both stop
+      → IsMadeBy s0 s1 p0 p1 first
+      → IsMadeBy s1 s2 p1 p2 (AreFirstPut before f n held order)
+      → Ends rose (IsMadeBy s0 s2 p0 p2) (copy_plan before f n held order schema) (Err stop)
+  files_stopped stop s0 s1 s2 p0 p1 p2 why schema_made some =
+      inr (
+        tt,
+        tt,
+        inl (
+          why,
+          made_on s0 s1 s2 p0 p1 p2 first (AreFirstPut before f n held order) schema_made some,
+        ),
+      )
 
-    schema_left : (s0 s1 : State) (p0 p1 : History)
-        → MayStore (meta_path before f n Schema) schema s0 s1 p0 p1
-        → IsMadeBy s0 s1 p0 p1 (λ xs. IsNothing xs ⊎ IsSchemaPut before f n schema xs)
-    schema_left s0 s1 p0 p1 (inl moves) = ([], inl refl, moves)
-    schema_left s0 s1 p0 p1 (inr (at, moves)) = (schema_at at ∷ [], inr (at, refl), moves)
+  -- the files were put, and the put of the manifest stopped
+  pub manifest_stopped : (stop : Stop) (files : List FileRecord) (text : List ℕ)
+      (s0 s1 s2 s3 : State) (p0 p1 p2 p3 : History)
+      → StopsAt {T = Unit {0}} rose Passed on_storage stop → text ≡ manifest_text files
+      → IsMadeBy s0 s1 p0 p1 first → IsMadeBy s1 s2 p1 p2 (files_put files)
+      → IsMadeBy s2 s3 p2 p3 (OrNothing (IsPut (meta_path before f n Manifest) text))
+      → Ends rose (IsMadeBy s0 s3 p0 p3) (copy_plan before f n held order schema) (Err stop)
+  manifest_stopped stop files text s0 s1 s2 s3 p0 p1 p2 p3 why text_is schema_made all may =
+      inr (
+        tt,
+        tt,
+        inr (
+          files,
+          (all.0, all.1),
+          inl (
+            why,
+            made_on s0 s2 s3 p0 p2 p3 (HasFiles before f n held order schema files)
+                (OrNothing (manifest_put files))
+                (made_on s0 s1 s2 p0 p1 p2 first (files_put files) schema_made all)
+                (subst (λ (t : List ℕ). IsMadeBy s2 s3 p2 p3
+                (OrNothing (IsPut (meta_path before f n Manifest) t))) text_is may),
+          ),
+        ),
+      )
 
-    files_left : (at : ℕ) (s0 s1 s2 : State) (p0 p1 p2 : History)
-        → ChangesWithin (schema_at at ∷ []) s0 s1 p0 p1 → PlacesSome before f n held order s1 s2 p1
-        p2
-        → IsMadeBy s0 s2 p0 p2 (IsBegun before f n schema held order)
-    files_left at s0 s1 s2 p0 p1 p2 first some = (
-      schema_at at ∷ map (put_of before f n) some.places.copies,
-      record {
-        at = at;
-        copies = some.places.copies;
-        rest = some.rest;
-        split = some.split ∙ ap (λ l. l ++ some.rest) (sym some.places.keys_are);
-        bytes_are = some.places.bytes_are;
-        xs_are = refl;
-      },
-      moves_on (schema_at at ∷ []) (map (put_of before f n) some.places.copies) s0 s1 s2 p0 p1 p2
-          first some.places.moves,
-    )
+  -- the files were put, and there was no memory for the manifest
+  pub text_stopped : (stop : Stop) (files : List FileRecord) (s0 s1 s2 : State)
+      (p0 p1 p2 : History)
+      → StopsAt {T = Unit {0}} rose Passed on_storage stop
+      → IsMadeBy s0 s1 p0 p1 first → IsMadeBy s1 s2 p1 p2 (files_put files)
+      → Ends rose (IsMadeBy s0 s2 p0 p2) (copy_plan before f n held order schema) (Err stop)
+  text_stopped stop files s0 s1 s2 p0 p1 p2 why schema_made all =
+      manifest_stopped stop files (manifest_text files) s0 s1 s2 s2 p0 p1 p2 p2 why refl schema_made
+      all (none_made s2 s2 p2 p2 (manifest_put files) (moves_at_rest s2 p2))
 
-    all_files : (at : ℕ) (files : List FileRecord) (s0 s1 s2 : State)
-        (p0 p1 p2 : History) → ChangesWithin (schema_at at ∷ []) s0 s1 p0 p1
-        → PlacesAll before f n held order s1 s2 p1 p2 files
-        → IsMadeBy s0 s2 p0 p2 (HasFiles before f n schema held order files)
-    unfolding copy_of
-    all_files at files s0 s1 s2 p0 p1 p2 first all = (
-      schema_at at ∷ map (put_of before f n) all.places.copies,
-      record {
-        at = at;
-        copies = all.places.copies;
-        copy = copy_of files s1 s2 p1 p2 all;
-        xs_are = refl;
-      },
-      moves_on (schema_at at ∷ []) (map (put_of before f n) all.places.copies) s0 s1 s2 p0 p1 p2
-          first all.places.moves,
-    )
+  -- all was put
+  pub all_made : (files : List FileRecord) (text : List ℕ) (s0 s1 s2 s3 : State)
+      (p0 p1 p2 p3 : History) → text ≡ manifest_text files
+      → IsMadeBy s0 s1 p0 p1 first → IsMadeBy s1 s2 p1 p2 (files_put files)
+      → IsMadeBy s2 s3 p2 p3 (IsPut (meta_path before f n Manifest) text)
+      → IsMadeBy s0 s3 p0 p3 (HasAll before f n held order schema files)
+  all_made files text s0 s1 s2 s3 p0 p1 p2 p3 text_is schema_made all last =
+      made_on s0 s2 s3 p0 p2 p3 (HasFiles before f n held order schema files) (manifest_put files)
+      (made_on s0 s1 s2 p0 p1 p2 first (files_put files) schema_made all)
+      (subst (λ (t : List ℕ). IsMadeBy s2 s3 p2 p3 (IsPut (meta_path before f n Manifest) t))
+      text_is last)
 
-    all_made : (at : ℕ) (files : List FileRecord) (text : List ℕ) (end : ℕ) (s0 s1 s2 s3 : State)
-        (p0 p1 p2 p3 : History) → text ≡ manifest_text files
-        → ChangesWithin (schema_at at ∷ []) s0 s1 p0 p1
-        → PlacesAll before f n held order s1 s2 p1 p2 files
-        → ChangesWithin (Stores (meta_path before f n Manifest) text end ∷ []) s2 s3 p2 p3
-        → IsMadeBy s0 s3 p0 p3 (HasAll before f n schema held order files)
-    unfolding copy_of
-    all_made at files text end s0 s1 s2 s3 p0 p1 p2 p3 text_is first all last = (
-      backup_puts before f n schema at all.places.copies end,
-      record {
-        at = at;
-        copies = all.places.copies;
-        end = end;
-        copy = copy_of files s1 s2 p1 p2 all;
-        xs_are = refl;
-      },
-      all_passed before f n held schema at all.places.copies end s0 s1 s2 s3 p0 p1 p2 p3 first
-          all.places.moves
-          (subst (λ (t : List ℕ). ChangesWithin (Stores (meta_path before f n Manifest) t end ∷ [])
-          s2 s3 p2
-          p3) (text_is ∙ ap manifest_text all.files_are) last),
-    )
-
-    manifest_left : (at : ℕ) (files : List FileRecord) (text : List ℕ) (s0 s1 s2 s3 : State)
-        (p0 p1 p2 p3 : History) → text ≡ manifest_text files
-        → ChangesWithin (schema_at at ∷ []) s0 s1 p0 p1
-        → PlacesAll before f n held order s1 s2 p1 p2 files
-        → MayStore (meta_path before f n Manifest) text s2 s3 p2 p3
-        → IsMadeBy s0 s3 p0 p3 (λ xs. HasFiles before f n schema held order files xs
-        ⊎ HasAll before f n schema held order files xs)
-    manifest_left at files text s0 s1 s2 s3 p0 p1 p2 p3 text_is first all (inl moves) =
-        let made = all_files at files s0 s1 s2 p0 p1 p2 first all in
-        (made.0, inl made.1, after made.0 made.2)
-      where
-        after : (xs : List Effect) → ChangesWithin xs s0 s2 p0 p2 → ChangesWithin xs s0 s3 p0 p3
-        after xs passed = subst (λ (l : List Effect). ChangesWithin l s0 s3 p0 p3) (append-nil xs)
-            (moves_on xs [] s0 s2 s3 p0 p2 p3 passed moves)
-    manifest_left at files text s0 s1 s2 s3 p0 p1 p2 p3 text_is first all (inr (end, moves)) =
-        let made = all_made at files text end s0 s1 s2 s3 p0 p1 p2 p3 text_is first all moves in
-        (made.0, inr made.1, made.2)
-
-    -- ---- the ends
-
-    module _ (rose : Device → Type 0) where
-      -- the put of the schema stopped
-      pub schema_stopped : (stop : Stop) (s0 s1 : State) (p0 p1 : History)
-          → StopsAt {T = Unit {0}} rose Passed on_storage stop
-          → MayStore (meta_path before f n Schema) schema s0 s1 p0 p1
-          → Ends rose (IsMadeBy s0 s1 p0 p1) (copy_plan before f n held order schema) (Err stop)
-      schema_stopped stop s0 s1 p0 p1 why may = inl (why, schema_left s0 s1 p0 p1 may)
-
-      -- the schema was put, and copying the files stopped
-      pub files_stopped : (stop : Stop) (at : ℕ) (s0 s1 s2 : State)
-          (p0 p1 p2 : History)
-          → StopsAt rose (Copies before f n held order) on_both stop
-          → ChangesWithin (schema_at at ∷ []) s0 s1 p0 p1
-          → PlacesSome before f n held order s1 s2 p1 p2
-          → Ends rose (IsMadeBy s0 s2 p0 p2) (copy_plan before f n held order schema) (Err stop)
-      files_stopped stop at s0 s1 s2 p0 p1 p2 why first some =
-          inr (tt, tt, inl (why, files_left at s0 s1 s2 p0 p1 p2 first some))
-
-      -- the files were put, and there was no memory for the manifest
-      pub text_stopped : (stop : Stop) (at : ℕ) (files : List FileRecord) (s0 s1 s2 : State)
-          (p0 p1 p2 : History)
-          → StopsAt {T = Unit {0}} rose Passed on_storage stop
-          → ChangesWithin (schema_at at ∷ []) s0 s1 p0 p1
-          → PlacesAll before f n held order s1 s2 p1 p2 files
-          → Ends rose (IsMadeBy s0 s2 p0 p2) (copy_plan before f n held order schema) (Err stop)
-      text_stopped stop at files s0 s1 s2 p0 p1 p2 why first all =
-          let made = all_files at files s0 s1 s2 p0 p1 p2 first all in
+  pub all_put : (files : List FileRecord) (text : List ℕ) (s0 s1 s2 s3 : State)
+      (p0 p1 p2 p3 : History) → text ≡ manifest_text files
+      → IsMadeBy s0 s1 p0 p1 first → IsMadeBy s1 s2 p1 p2 (files_put files)
+      → IsMadeBy s2 s3 p2 p3 (IsPut (meta_path before f n Manifest) text)
+      → Ends rose (IsMadeBy s0 s3 p0 p3) (copy_plan before f n held order schema) (Ok files)
+  all_put files text s0 s1 s2 s3 p0 p1 p2 p3 text_is schema_made all last =
+      inr (
+        tt,
+        tt,
+        inr (
+          files,
+          (all.0, all.1),
           inr (
             tt,
             tt,
-            inr (
-              files,
-              (all.places.copies, copy_of files s1 s2 p1 p2 all),
-              inl (why, (made.0, inl made.1, made.2)),
-            ),
-          )
-
-      -- the files were put, and the put of the manifest stopped
-      pub manifest_stopped : (stop : Stop) (at : ℕ) (files : List FileRecord) (text : List ℕ)
-          (s0 s1 s2 s3 : State) (p0 p1 p2 p3 : History)
-          → StopsAt {T = Unit {0}} rose Passed on_storage stop
-          → text ≡ manifest_text files → ChangesWithin (schema_at at ∷ []) s0 s1 p0 p1
-          → PlacesAll before f n held order s1 s2 p1 p2 files
-          → MayStore (meta_path before f n Manifest) text s2 s3 p2 p3
-          → Ends rose (IsMadeBy s0 s3 p0 p3) (copy_plan before f n held order schema) (Err stop)
-      manifest_stopped stop at files text s0 s1 s2 s3 p0 p1 p2 p3 why text_is first all may =
-          inr (
-            tt,
-            tt,
-            inr (
-              files,
-              (all.places.copies, copy_of files s1 s2 p1 p2 all),
-              inl (
-                why,
-                manifest_left at files text s0 s1 s2 s3 p0 p1 p2 p3 text_is first all may,
-              ),
-            ),
-          )
-
-      -- all was put
-      pub all_put : (at : ℕ) (files : List FileRecord) (text : List ℕ) (end : ℕ)
-          (s0 s1 s2 s3 : State) (p0 p1 p2 p3 : History) → text ≡ manifest_text files
-          → ChangesWithin (schema_at at ∷ []) s0 s1 p0 p1
-          → PlacesAll before f n held order s1 s2 p1 p2 files
-          → ChangesWithin (Stores (meta_path before f n Manifest) text end ∷ []) s2 s3 p2 p3
-          → Ends rose (IsMadeBy s0 s3 p0 p3) (copy_plan before f n held order schema) (Ok files)
-      all_put at files text end s0 s1 s2 s3 p0 p1 p2 p3 text_is first all last =
-          inr (
-            tt,
-            tt,
-            inr (
-              files,
-              (all.places.copies, copy_of files s1 s2 p1 p2 all),
-              inr (
-                tt,
-                tt,
-                (refl, all_made at files text end s0 s1 s2 s3 p0 p1 p2 p3 text_is first all last),
-              ),
-            ),
-          )
+            (refl, all_made files text s0 s1 s2 s3 p0 p1 p2 p3 text_is schema_made all last),
+          ),
+        ),
+      )
 
 -- why copying the files stopped
 pub copy_stop : (before f n : List ℕ) (held : Option Snapshot) (order : List FileKey)
-    (rb rn sb sm sn : ℕ) → sb ≤ sm → (fault : CopyFault) → IsCaused rb rn sm sn fault
+    (rb rn sb sm sn : ℕ) → sb ≤ sm → (fault : CopyFault)
+    → rose_of_node rb rn sm sn (device_of fault)
     → StopsAt (rose_of_node rb rn sb sn) (Copies before f n held order) on_both
     (stop_of_fault fault)
 copy_stop before f n held order rb rn sb sm sn later Snap rose = (inl refl, rose)

@@ -8,9 +8,10 @@ use Rattle.med_outside.specs.Ends.{Refusal, StopsAt}
 use Rattle.med_outside.specs.State.{State, OnlyReads, History}
 use Rattle.med_outside.specs.Storage.{MayPut}
 use Rattle.med_outside.specs.World.{rose_of_node}
-use Rattle.med_backup.specs.Placing.{store_fault}
-use Rattle.med_backup.specs.Plan.{on_storage, stop_of_fault}
+use Rattle.med_backup.specs.Errors.{fault_of, stop_of_fault}
+use Rattle.med_backup.specs.Plan.{on_storage}
 use Rattle.med_backup.specs.declared.place.CopyFault.{CopyFault}
+use Rattle.med_backup.specs.declared.place.CopyFault.TheVariants.{Store}
 
 -- what holds holds after a refusal
 pub on_err : {T E : Type 0} {P : Type 0} (r : Result T E) → P → OnErr r P
@@ -55,7 +56,7 @@ may_put path bytes old new stood_before stood_after (Err Memory) e failed memory
 pub store_stop : {T U : Type 0} (answers : Result U Refusal → Type 0) (A : T → Type 0)
     (Q : Denied → Type 0) (rb rn sb sm sn : ℕ) (r : Result T Denied) (fault : CopyFault)
     → false ≡ is_ok r → MatchResult r A Q
-    → ((denied : Denied) → Q denied → fault ≡ store_fault denied)
+    → ((denied : Denied) → Q denied → fault ≡ fault_of Store denied)
     → (r ≡ Err Failed → RoseOrFull sm sn) → sb ≤ sm
     → StopsAt (rose_of_node rb rn sb sn) answers on_storage (stop_of_fault fault)
 store_stop answers A Q rb rn sb sm sn (Ok x) fault e is gives rose later = absurd (cc e)

@@ -16,10 +16,51 @@ use Rattle.med_manifest.specs.Written.{manifest_text}
 use Rattle.med_outside.specs.Effects.{Effect, Stores, applied}
 use Rattle.med_outside.specs.Snapshot.{Snapshot}
 use Rattle.med_backup.specs.Backup.{HoldsBytes, IsFileOf, IsBackupOf, AddsAt, paths_of, FinishesBackup}
-use Rattle.med_backup.specs.Copies.{Copy, key_of, put_of, records_of, backup_puts}
+use Rattle.med_backup.specs.Copies.{Copy, key_of, put_of, record_of, AreOf, HasAll}
 use Rattle.med_backup.proofs.Apart.{own_under, meta_under, own_or_meta, schema_or_manifest, later_apart, meta_apart}
 use Rattle.med_base.proofs.Lists.{all_append}
 use Rattle.med_backup.proofs.Stands.{NoneHas, path_of, stays, put_stays, last_put}
+
+abbrev pub records_of : (before f n : List ℕ) → List Copy → List FileRecord
+records_of before f n copies = map (record_of before f n) copies
+
+-- the schema, each file, and the manifest that records these files
+abbrev pub backup_puts : (before f n schema : List ℕ) (at : ℕ) → List Copy → (end : ℕ)
+    → List Effect
+backup_puts before f n schema at copies end =
+    Stores (meta_path before f n Schema) schema at
+    ∷ (map (put_of before f n) copies
+    ++ Stores (meta_path before f n Manifest) (manifest_text (records_of before f n copies)) end ∷
+    [])
+
+-- the puts of a backup as one list
+pub record AreAllPuts (before f n : List ℕ) (held : Option Snapshot) (order : List FileKey)
+    (schema : List ℕ) (files : List FileRecord) (xs : List Effect) : Type 0 where
+  pub at : ℕ
+  pub copies : List Copy
+  pub end : ℕ
+  pub keys_are : map key_of copies ≡ order
+  pub bytes_are : AreOf held copies
+  pub files_are : files ≡ records_of before f n copies
+  pub xs_are : xs ≡ backup_puts before f n schema at copies end
+
+pub all_puts : (before f n : List ℕ) (held : Option Snapshot) (order : List FileKey)
+    (schema : List ℕ) (files : List FileRecord) (xs : List Effect)
+    → HasAll before f n held order schema files xs
+    → AreAllPuts before f n held order schema files xs
+all_puts before f n held order schema files xs
+    (us, ms, (ss, fs, (at, ss_are), put, us_are), (end, ms_are), xs_are) = record {
+      at = at;
+      copies = put.copies;
+      end = end;
+      keys_are = put.keys_are;
+      bytes_are = put.bytes_are;
+      files_are = put.files_are;
+      xs_are = xs_are
+          ∙ (λ i. us_are i ++ ms_are i)
+          ∙ (λ i. (ss_are i ++ put.xs_are i)
+          ++ Stores (meta_path before f n Manifest) (manifest_text (put.files_are i)) end ∷ []);
+    }
 
 -- an object of these bytes stands under the own path of the file
 abbrev Holds : (before f n : List ℕ) → Content → Copy → Type 0

@@ -5,6 +5,7 @@ pub mod Denials
 pub mod Finished
 pub mod KeyLists
 pub mod LookSteps
+pub mod Made
 pub mod NodeSteps
 pub mod Placed
 pub mod Stands

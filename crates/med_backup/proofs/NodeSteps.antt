@@ -1,17 +1,17 @@
 -- How the work on a node ends, out of its parts.
 use Rattle.std.proofs.Common.{◌≡◌, ◌≤◌, ◌+◌, ◌-◌, ◌^◌, min, ℕ, List, [], Option, sym, ◌∙◌, subst, arith, Result, Ok, Err, OnOk}
-use Rattle.med_base.specs.declared.key.FileKey.{FileKey}
 use Rattle.med_base.specs.Content.{Content}
 use Rattle.med_manifest.specs.declared.manifest.FileRecord.{FileRecord}
 use Rattle.med_outside.specs.Ends.{Device, Files, Nodes, Storage, Output, Memory}
 use Rattle.med_outside.specs.Snapshot.{Snapshot}
 use Rattle.med_outside.specs.State.{State, Changes, ChangesWithin, History}
 use Rattle.med_outside.specs.World.{NodesState, rose_of_node}
-use Rattle.med_outside.proofs.Passing.{moves_on, after_all-nothing}
-use Rattle.med_backup.specs.BackedUp.{IsFound, IsCopied, IsBackedUpFrom}
-use Rattle.med_backup.specs.Copies.{backup_puts}
-use Rattle.med_backup.specs.Plan.{ChangeLists, IsMadeBy, Left, Leaves}
+use Rattle.med_outside.proofs.Passing.{after_all-nothing}
+use Rattle.med_backup.specs.BackedUp.{IsFound, IsBackedUpFrom}
+use Rattle.med_backup.specs.Copies.{IsMadeBy, HasAll}
 use Rattle.med_backup.specs.NodeConfig.{NodeConfig, opened_at}
+use Rattle.med_backup.specs.Plan.{Left, Leaves}
+use Rattle.med_backup.proofs.Made.{made_later}
 
 -- what holds holds after a good answer
 pub on_ok : {T E : Type 0} {P : Type 0} (r : Result T E) → P → OnOk r P
@@ -45,11 +45,6 @@ pub same_content : (s0 s1 : State) (p0 p1 : History) → Changes [] s0 s1 p0 p1
     → s1.content ≡ s0.content
 same_content s0 s1 p0 p1 a = a.content ∙ after_all-nothing s0.content
 
-pub made_later : (s0 s1 s2 : State) (p0 p1 p2 : History) → ChangesWithin [] s0 s1 p0 p1
-    → (made : ChangeLists) → IsMadeBy s1 s2 p1 p2 made → IsMadeBy s0 s2 p0 p2 made
-made_later s0 s1 s2 p0 p1 p2 first made (xs, is, moves) =
-    (xs, is, moves_on [] xs s0 s1 s2 p0 p1 p2 first moves)
-
 -- what is left over a bucket that was opened first
 pub left_later : (node_config : NodeConfig) (nodes nodes_now : NodesState) (s0 s1 s2 : State)
     (p0 p1 p2 : History) → ChangesWithin [] (opened_at node_config s0) s1 p0 p1 → (left : Left)
@@ -62,30 +57,15 @@ left_later node_config nodes nodes_now s0 s1 s2 p0 p1 p2 first left (is, made, c
   counts,
 )
 
-module _ (before f n : List ℕ) (held : Option Snapshot) where
-  pub copied_after : (order : List FileKey) (schema : List ℕ) (s0 s1 s2 : State)
-      (p0 p1 p2 : History) (files : List FileRecord)
-      → ChangesWithin [] s0 s1 p0 p1 → IsCopied before f n held order schema s1 s2 p1 p2 files
-      → IsCopied before f n held order schema s0 s2 p0 p2 files
-  copied_after order schema s0 s1 s2 p0 p1 p2 files first c = record {
-    at = c.at;
-    copies = c.copies;
-    end = c.end;
-    keys_are = c.keys_are;
-    bytes_are = c.bytes_are;
-    files_are = c.files_are;
-    manifest_is = c.manifest_is;
-    moves = moves_on [] (backup_puts before f n schema c.at c.copies c.end) s0 s1 s2 p0 p1 p2
-        first c.moves;
-  }
-
-  pub made_after : (s0 s1 s2 : State) (p0 p1 p2 : History) (files : List FileRecord)
-      → ChangesWithin [] s0 s1 p0 p1 → IsBackedUpFrom before f n held s1 s2 p1 p2 files
-      → IsBackedUpFrom before f n held s0 s2 p0 p2 files
-  made_after s0 s1 s2 p0 p1 p2 files first m = record {
-    order = m.order;
-    schema = m.schema;
-    found = subst (λ (c : Option Content). IsFound before f n held c m.order m.schema)
-        (same_content s0 s1 p0 p1 first.passes) m.found;
-    copied = copied_after m.order m.schema s0 s1 s2 p0 p1 p2 files first m.copied;
-  }
+pub made_after : (before f n : List ℕ) (held : Option Snapshot) (s0 s1 s2 : State)
+    (p0 p1 p2 : History) (files : List FileRecord)
+    → ChangesWithin [] s0 s1 p0 p1 → IsBackedUpFrom before f n held s1 s2 p1 p2 files
+    → IsBackedUpFrom before f n held s0 s2 p0 p2 files
+made_after before f n held s0 s1 s2 p0 p1 p2 files first m = record {
+  order = m.order;
+  schema = m.schema;
+  found = subst (λ (c : Option Content). IsFound before f n held c m.order m.schema)
+      (same_content s0 s1 p0 p1 first.passes) m.found;
+  made = made_later s0 s1 s2 p0 p1 p2 first (HasAll before f n held m.order m.schema files) m.made;
+  manifest_is = m.manifest_is;
+}

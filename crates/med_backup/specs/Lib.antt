@@ -1,7 +1,7 @@
 pub mod BackedUp
 pub mod Backup
 pub mod Copies
-pub mod Placing
+pub mod Errors
 pub mod Plan
 pub mod NodeConfig
 pub mod Taken

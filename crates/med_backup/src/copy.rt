@@ -2,8 +2,12 @@
 ghost use Rattle.std.specs.Prelude.{◌≡◌, ◌≤◌, IfOk};
 ghost use Rattle.med_outside.specs.Ends.{Ends, seen};
 ghost use Rattle.med_outside.specs.World.{rose_of_node};
-ghost use Rattle.med_backup.specs.BackedUp.{IsFound, IsCopied};
-ghost use Rattle.med_backup.specs.Plan.{IsMadeBy, copy_plan, stop_of_fault};
+ghost use Rattle.med_manifest.specs.Manifest.{IsManifest};
+ghost use Rattle.med_manifest.specs.Written.{manifest_text};
+ghost use Rattle.med_backup.specs.BackedUp.{IsFound};
+ghost use Rattle.med_backup.specs.Copies.{IsMadeBy, HasAll};
+ghost use Rattle.med_backup.specs.Errors.{stop_of_fault};
+ghost use Rattle.med_backup.specs.Plan.{copy_plan};
 
 use crate::look::Found;
 use crate::place::{CopyFault, of_store, place_all, put_meta};
@@ -25,9 +29,13 @@ pub(crate) fn copy_found<S: Storage, P: Snap>(
     requires { IsFound layout.now node.now name.now (P.held snap.old) (S.state store.old).content
         found.now.keys.items found.now.schema.items }
     ensures ok { IfOk result
-        (λ files. IsCopied layout.now node.now name.now (P.held snap.old) found.now.keys.items
-        found.now.schema.items (S.state store.old) (S.state store.new) (S.stood_since store.old)
-        (S.stood_since store.new) files.items) }
+        (λ files. IsMadeBy (S.state store.old) (S.state store.new) (S.stood_since store.old)
+        (S.stood_since store.new)
+        (HasAll layout.now node.now name.now (P.held snap.old) found.now.keys.items
+        found.now.schema.items files.items)) }
+    ensures names { IfOk result
+        (λ files. IsManifest layout.now node.now name.now (manifest_text files.items)
+        files.items) }
     ensures ends { Ends (rose_of_node (P.faults snap.old) (P.faults snap.new)
         (S.state store.old).faults (S.state store.new).faults)
         (IsMadeBy (S.state store.old) (S.state store.new) (S.stood_since store.old)

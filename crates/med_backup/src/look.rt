@@ -7,7 +7,9 @@ ghost use Rattle.med_outside.specs.Ends.{Ends, seen};
 ghost use Rattle.med_outside.specs.World.{rose_of_node};
 ghost use Rattle.med_backup.specs.declared.look.BackupError.TheVariants.{Fault};
 ghost use Rattle.med_backup.specs.BackedUp.{IsFound};
-ghost use Rattle.med_backup.specs.Plan.{IsMadeBy, look_plan, found_of, stop_of};
+ghost use Rattle.med_backup.specs.Copies.{IsMadeBy};
+ghost use Rattle.med_backup.specs.Errors.{stop_of};
+ghost use Rattle.med_backup.specs.Plan.{look_plan};
 ghost use Rattle.med_backup.specs.Taken.{first_entry, IsFirstUnder};
 
 use crate::keys::{WalkError, walk};
@@ -87,7 +89,7 @@ pub(crate) fn look<S: Storage, P: Snap>(
         (IsMadeBy (S.state store.old) (S.state store.new) (S.stood_since store.old)
         (S.stood_since store.new))
         (look_plan layout.now node.now name.now (P.held snap.old) (S.state store.old).content)
-        (seen found_of (stop_of name.now) result) }
+        (seen (λ found. (found.keys.items, found.schema.items)) (stop_of name.now) result) }
     ensures looks { OnlyReads (S.state store.old) (S.state store.new) (S.stood_since store.old)
         (S.stood_since store.new) }
     ensures same { P.held snap.new ≡ P.held snap.old }

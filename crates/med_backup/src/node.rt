@@ -4,7 +4,9 @@ ghost use Rattle.med_outside.specs.Counts.{opened_once};
 ghost use Rattle.med_outside.specs.Ends.{Ends, seen};
 ghost use Rattle.med_outside.specs.World.{rose_of_node};
 ghost use Rattle.med_backup.specs.BackedUp.{IsBackedUpFrom};
-ghost use Rattle.med_backup.specs.Plan.{IsMadeBy, Left, Leaves, snapshot_plan, opened_plan, node_plan, stop_of, tagged_at};
+ghost use Rattle.med_backup.specs.Copies.{IsMadeBy};
+ghost use Rattle.med_backup.specs.Errors.{stop_of};
+ghost use Rattle.med_backup.specs.Plan.{Left, Leaves, snapshot_plan, opened_plan, node_plan, tagged_at};
 ghost use Rattle.med_backup.specs.NodeConfig.{node_config_of, opened_at, snap_at};
 
 use crate::copy::copy_found;

@@ -4,8 +4,10 @@ ghost use Rattle.std.specs.List.{AllByRecursion};
 ghost use Rattle.med_base.specs.Layout.{meta_path};
 ghost use Rattle.med_outside.specs.Causes.{HasCause};
 ghost use Rattle.med_outside.specs.Snapshot.{HasKey};
+ghost use Rattle.med_outside.specs.World.{rose_of_node};
 ghost use Rattle.med_backup.specs.declared.place.CopyFault.TheVariants.{Memory};
-ghost use Rattle.med_backup.specs.Placing.{store_fault, snap_fault, IsCaused, PlacesOne, PlacesAll, PlacesSome, StoresOne, MayStore};
+ghost use Rattle.med_backup.specs.Copies.{IsPut, OrNothing, IsMadeBy, ArePut, AreFirstPut};
+ghost use Rattle.med_backup.specs.Errors.{fault_of, device_of};
 
 use med_base::{BackupName, FileKey, Fingerprint, Fqdn, Layout, MetaKind, NoMemory};
 use med_manifest::FileRecord;
@@ -40,7 +42,7 @@ impl<T: Drop> From<AllocFailed<T>> for CopyFault {
 
 /// The fault where a call of the storage is denied.
 pub(crate) fn of_store(denied: Denied) -> CopyFault
-    ensures { result ≡ store_fault denied }
+    ensures { result ≡ fault_of CopyFault.Store denied }
 {
     match denied {
         Denied::Failed => CopyFault::Store,
@@ -50,7 +52,7 @@ pub(crate) fn of_store(denied: Denied) -> CopyFault
 
 /// The fault where a call of the nodes or of a snapshot is denied.
 pub(crate) fn of_snap(denied: Denied) -> CopyFault
-    ensures { result ≡ snap_fault denied }
+    ensures { result ≡ fault_of CopyFault.Snap denied }
 {
     match denied {
         Denied::Failed => CopyFault::Snap,
@@ -69,11 +71,13 @@ pub(crate) fn put_meta<S: Storage>(
     bytes: &[u8],
 ) -> Result<(), Denied>
     ensures ok { OnOk result
-        (StoresOne (meta_path layout.now node.now name.now kind) bytes.now (S.state store.old)
-        (S.state store.new) (S.stood_since store.old) (S.stood_since store.new)) }
+        (IsMadeBy (S.state store.old) (S.state store.new) (S.stood_since store.old)
+        (S.stood_since store.new)
+        (IsPut (meta_path layout.now node.now name.now kind) bytes.now)) }
     ensures err { OnErr result
-        (MayStore (meta_path layout.now node.now name.now kind) bytes.now (S.state store.old)
-        (S.state store.new) (S.stood_since store.old) (S.stood_since store.new)) }
+        (IsMadeBy (S.state store.old) (S.state store.new) (S.stood_since store.old)
+        (S.stood_since store.new)
+        (OrNothing (IsPut (meta_path layout.now node.now name.now kind) bytes.now))) }
     ensures cause { HasCause (S.state store.old).faults (S.state store.new).faults result }
 {
     let path = layout.meta(alloc, node, name, kind)?;
@@ -93,18 +97,19 @@ fn place<S: Storage, P: Snap>(
 ) -> Result<FileRecord, CopyFault>
     requires { IfSome (P.held snap.old) (HasKey key.now) }
     ensures ok { IfOk result
-        (PlacesOne layout.now node.now name.now (P.held snap.old) key.now (S.state store.old)
-        (S.state store.new) (S.stood_since store.old) (S.stood_since store.new)) }
+        (λ file. IsMadeBy (S.state store.old) (S.state store.new) (S.stood_since store.old)
+        (S.stood_since store.new)
+        (ArePut layout.now node.now name.now (P.held snap.old) (key.now ∷ []) (file ∷ []))) }
     ensures err { OnErr result
-        (PlacesSome layout.now node.now name.now (P.held snap.old) (key.now ∷ [])
-        (S.state store.old) (S.state store.new) (S.stood_since store.old)
-        (S.stood_since store.new)) }
+        (IsMadeBy (S.state store.old) (S.state store.new) (S.stood_since store.old)
+        (S.stood_since store.new)
+        (AreFirstPut layout.now node.now name.now (P.held snap.old) (key.now ∷ []))) }
     ensures same { P.held snap.new ≡ P.held snap.old }
     ensures snap_later { P.faults snap.old ≤ P.faults snap.new }
     ensures store_later { (S.state store.old).faults ≤ (S.state store.new).faults }
     ensures cause { IfErr result
-        (IsCaused (P.faults snap.old) (P.faults snap.new) (S.state store.old).faults
-        (S.state store.new).faults) }
+        (λ fault. rose_of_node (P.faults snap.old) (P.faults snap.new)
+        (S.state store.old).faults (S.state store.new).faults (device_of fault)) }
 {
     let path = layout.own(alloc, node, name, key)?;
     let record_key = key.copy(alloc)?;
@@ -131,18 +136,19 @@ pub(crate) fn place_all<S: Storage, P: Snap>(
 ) -> Result<Vec<FileRecord>, CopyFault>
     requires { IfSome (P.held snap.old) (λ s. AllByRecursion (λ key. HasKey key s) keys.now) }
     ensures ok { IfOk result
-        (λ files. PlacesAll layout.now node.now name.now (P.held snap.old) keys.now
-        (S.state store.old) (S.state store.new) (S.stood_since store.old) (S.stood_since store.new)
-        files.items) }
+        (λ files. IsMadeBy (S.state store.old) (S.state store.new) (S.stood_since store.old)
+        (S.stood_since store.new)
+        (ArePut layout.now node.now name.now (P.held snap.old) keys.now files.items)) }
     ensures err { OnErr result
-        (PlacesSome layout.now node.now name.now (P.held snap.old) keys.now (S.state store.old)
-        (S.state store.new) (S.stood_since store.old) (S.stood_since store.new)) }
+        (IsMadeBy (S.state store.old) (S.state store.new) (S.stood_since store.old)
+        (S.stood_since store.new)
+        (AreFirstPut layout.now node.now name.now (P.held snap.old) keys.now)) }
     ensures same { P.held snap.new ≡ P.held snap.old }
     ensures snap_later { P.faults snap.old ≤ P.faults snap.new }
     ensures store_later { (S.state store.old).faults ≤ (S.state store.new).faults }
     ensures cause { IfErr result
-        (IsCaused (P.faults snap.old) (P.faults snap.new) (S.state store.old).faults
-        (S.state store.new).faults) }
+        (λ fault. rose_of_node (P.faults snap.old) (P.faults snap.new)
+        (S.state store.old).faults (S.state store.new).faults (device_of fault)) }
 {
     let mut files = Vec::new(alloc);
     for key in keys {

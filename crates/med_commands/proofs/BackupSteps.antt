@@ -1,5 +1,5 @@
 -- A backup that was made is done, and how the command `backup` ends.
-use Rattle.std.proofs.Common.{◌≡◌, inl, inr, ℕ, List, [], map, Option, Some, None, IfSome, Result, Ok, Err, OnOk, OnErr, refl, sym, ◌∙◌, subst, arith}
+use Rattle.std.proofs.Common.{◌≡◌, inl, inr, ℕ, List, [], map, Option, Some, None, IfSome, Result, Ok, Err, OnOk, OnErr, refl, sym, ap, ◌∙◌, subst, arith}
 use Rattle.std.specs.List.{AllByRecursion}
 use Rattle.std.specs.FinMap.{keys}
 use Rattle.std.proofs.lemmas.Option.{IfSome_then}
@@ -12,7 +12,7 @@ use Rattle.med_manifest.specs.Written.{manifest_text}
 use Rattle.med_base.specs.Content.{Content}
 use Rattle.med_outside.specs.Causes.{RoseOrFull}
 use Rattle.med_outside.specs.Counts.{opened_once}
-use Rattle.med_outside.specs.Effects.{after_all}
+use Rattle.med_outside.specs.Effects.{Effect, after_all}
 use Rattle.med_outside.specs.Ends.{Device, Files, Nodes, Storage, Output, Memory, StopsAt, Steps, Ends, seen}
 use Rattle.med_outside.specs.Snapshot.{Snapshot}
 use Rattle.med_outside.proofs.EndsLemmas.{stops}
@@ -21,13 +21,14 @@ use Rattle.med_outside.specs.declared.mode.Mode.TheVariants.{Full}
 use Rattle.med_words.specs.Request.{Action, Asked, backup}
 use Rattle.med_backup.specs.BackedUp.{IsBackedUpFrom}
 use Rattle.med_backup.specs.Backup.{FinishesBackup, IsBackupOf}
-use Rattle.med_backup.specs.Copies.{Copy, key_of, records_of, backup_puts, AreOf}
-use Rattle.med_backup.specs.Plan.{Passed, tagged_at, stop_of as stop_of_error}
+use Rattle.med_backup.specs.Copies.{Copy, key_of, AreOf}
+use Rattle.med_backup.specs.Errors.{stop_of as stop_of_error}
+use Rattle.med_backup.specs.Plan.{Passed, tagged_at}
 use Rattle.med_backup.specs.NodeConfig.{NodeConfig, opened_at, snap_at}
 use Rattle.med_backup.specs.declared.look.BackupError.{BackupError}
 use Rattle.med_backup.specs.declared.look.BackupError.TheVariants as error
 use Rattle.med_backup.specs.declared.place.CopyFault.TheVariants as copy
-use Rattle.med_backup.proofs.Finished.{finished, backup_of}
+use Rattle.med_backup.proofs.Finished.{records_of, backup_puts, all_puts, finished, backup_of}
 use Rattle.med_commands.specs.Fault.{stop_of, fault_for, fault_of_load}
 use Rattle.med_commands.specs.Headline.{End, says}
 use Rattle.med_commands.specs.Loaded.{BlamesLoad}
@@ -93,37 +94,37 @@ done_of node_config n a b files m counts =
     let held = snap_at a.nodes.snaps node_config n in
     let old = a.store in
     let new = b.store in
-    let copies = m.copied.copies in
-    let rising : AreRising (map key_of copies) = subst AreRising (sym m.copied.keys_are)
-    m.found.can.rising in
-    let names : AllByRecursion IsKey (map key_of copies) = subst (AllByRecursion IsKey)
-    (sym m.copied.keys_are) m.found.can.names in
+    let (xs, has, moves) = m.made in
+    let puts = all_puts node_config.before node_config.node n held m.order m.schema files xs has in
+    let content : new.content ≡ after_all
+    (backup_puts node_config.before node_config.node n m.schema puts.at puts.copies puts.end)
+    old.content = moves.passes.content
+    ∙ ap (λ (l : List Effect). after_all l old.content) puts.xs_are in
+    let rising : AreRising (map key_of puts.copies) = subst AreRising (sym puts.keys_are)
+    m.found.walks.0 in
+    let names : AllByRecursion IsKey (map key_of puts.copies) = subst (AllByRecursion IsKey)
+    (sym puts.keys_are) m.found.walks.1 in
     let manifest : IsManifest node_config.before node_config.node n
-    (manifest_text (records_of node_config.before node_config.node n copies))
-    (records_of node_config.before node_config.node n copies) =
+    (manifest_text (records_of node_config.before node_config.node n puts.copies))
+    (records_of node_config.before node_config.node n puts.copies) =
     subst (λ (fs : List FileRecord). IsManifest node_config.before node_config.node n
-    (manifest_text fs) fs)
-    m.copied.files_are m.copied.manifest_is in
-    let keys_are : IfSome held (λ s. map key_of copies ≡ keys s.files) = IfSome_then held
-    m.found.can.keys_are (λ s e. m.copied.keys_are ∙ e) in
+    (manifest_text fs) fs) puts.files_are m.manifest_is in
+    let keys_are : IfSome held (λ s. map key_of puts.copies ≡ keys s.files) = IfSome_then held
+    m.found.walks.3 (λ s e. puts.keys_are ∙ e) in
     record {
       finished = subst (λ (fs : List FileRecord). IfTold old.content new.content
           (λ c d. FinishesBackup node_config.before node_config.node n c d fs))
-          (sym m.copied.files_are)
-          (told_finished node_config.before node_config.node n m.schema m.copied.at m.copied.end
-          copies
-          old.content new.content
-          m.copied.moves.passes.content m.found.was_free rising names manifest);
+          (sym puts.files_are)
+          (told_finished node_config.before node_config.node n m.schema puts.at puts.end puts.copies
+          old.content new.content content m.found.free rising names manifest);
       backup = subst (λ (fs : List FileRecord). IfTold old.content new.content
           (λ c d. IfSome held (λ s. IsBackupOf node_config.before node_config.node n s c d fs)))
-          (sym m.copied.files_are)
-          (told_backup node_config.before node_config.node n m.schema m.copied.at m.copied.end
-          copies held
-          old.content new.content
-          m.copied.moves.passes.content m.found.was_free rising names manifest m.copied.bytes_are
-          keys_are m.found.can.schema_is);
-      walked = m.found.walked;
-      was_free = m.found.was_free;
+          (sym puts.files_are)
+          (told_backup node_config.before node_config.node n m.schema puts.at puts.end puts.copies
+          held old.content new.content content m.found.free rising names manifest puts.bytes_are
+          keys_are m.found.reads);
+      walked = m.found.walks.2;
+      was_free = m.found.free;
       snapshot = counts;
       made = m;
     }

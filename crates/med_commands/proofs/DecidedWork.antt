@@ -6,7 +6,8 @@ use Rattle.med_base.specs.Layout.{backup_folder}
 use Rattle.med_base.specs.declared.key.FileKey.{FileKey}
 use Rattle.med_base.specs.Key.{IsKey}
 use Rattle.med_base.proofs.Lists.{not_all}
-use Rattle.med_backup.specs.Plan.{ChangeLists, Left, Leaves, worked, Walks, FindsFree, copy_plan, snapshot_plan, node_plan}
+use Rattle.med_backup.specs.Copies.{ChangeLists}
+use Rattle.med_backup.specs.Plan.{Left, Leaves, worked, Walks, FindsFree, copy_plan, snapshot_plan, node_plan}
 use Rattle.med_backup.specs.NodeConfig.{NodeConfig, snap_at}
 use Rattle.med_backup.specs.Taken.{first_path}
 use Rattle.med_backup.specs.Walked.{CanBeWalked, IsFirstBad}

@@ -1,17 +1,19 @@
 use Rattle.std.proofs.Common.{arith, inl, inr, refl, sym, subst}
 use Rattle.std.proofs.lemmas.Result.{err_from_is_err_and}
 use Rattle.med_base.specs.Key.{AreRising}
+use Rattle.med_manifest.specs.Manifest.{IsManifest}
 use Rattle.med_outside.specs.Ends.{Failed, Memory}
 use Rattle.med_outside.specs.World.{rose_of_node}
-use Rattle.med_backup.specs.Plan.{Passed, stop_of_fault}
+use Rattle.med_backup.specs.Errors.{stop_of_fault}
+use Rattle.med_backup.specs.Plan.{Passed}
 use Rattle.med_backup.proofs.Denials.{good, bad, store_stop}
-use Rattle.med_backup.proofs.Copied.{all_have, copied_all, files_keys, files_paths, files_names}
-use Rattle.med_backup.proofs.CopySteps.{files_stopped, text_stopped, manifest_stopped, all_put, copy_stop}
+use Rattle.med_backup.proofs.Copied.{all_have, files_keys, files_paths, files_names}
+use Rattle.med_backup.proofs.CopySteps.{files_stopped, text_stopped, manifest_stopped, all_made, all_put, copy_stop}
 use Rattle.med_backup.proofs.copy.copy_found.Goals as goal
 
 pub place_all-requires : goal.place_all-requires
 place_all-requires g c = rw c.as_slice-keys.ensures.value
-    (all_have (g.P.Snap.held c.args.snap.now) c.args.found.now.keys.items c.requires.can.keys_are)
+    (all_have (g.P.Snap.held c.args.snap.now) c.args.found.now.keys.items c.requires.walks.3)
 
 pub returns-in_err-files-clause-ends : goal.returns-in_err-files-clause-ends
 returns-in_err-files-clause-ends g c =
@@ -24,7 +26,7 @@ returns-in_err-files-clause-ends g c =
     c.args.found.now.keys.items c.args.found.now.schema.items
     (rose_of_node (g.P.Snap.faults c.args.snap.now) (g.P.Snap.faults c.place_all.new.snap)
     (g.S.Storage.state c.args.store.now).faults (g.S.Storage.state c.place_all.new.store).faults)
-    (stop_of_fault c.in_err-files.field-0.0) first.0
+    (stop_of_fault c.in_err-files.field-0.0)
     (g.S.Storage.state c.args.store.now) (g.S.Storage.state c.put_meta.new.store)
     (g.S.Storage.state c.place_all.new.store)
     (g.S.Storage.stood_since c.args.store.now) (g.S.Storage.stood_since c.put_meta.new.store)
@@ -36,18 +38,15 @@ returns-in_err-files-clause-ends g c =
     (g.S.Storage.state c.place_all.new.store).faults c.put_meta.ensures.cause.later
     c.in_err-files.field-0.0
     c.in_err-files.ensures.cause)
-    first.1 (rw c.as_slice-keys.ensures.value at c.in_err-files.ensures.err))
+    first (rw c.as_slice-keys.ensures.value at c.in_err-files.ensures.err))
 
 pub write-requires : goal.write-requires
 write-requires g c =
     let all = rw c.as_slice-keys.ensures.value at c.in_ok-files.ensures.ok in
     subst AreRising (sym
     (files_keys c.args.layout.now c.args.node.now c.args.name.now
-    (g.P.Snap.held c.args.snap.now) c.args.found.now.keys.items
-    (g.S.Storage.state c.put_meta.new.store) (g.S.Storage.state c.place_all.new.store)
-    (g.S.Storage.stood_since c.put_meta.new.store)
-    (g.S.Storage.stood_since c.place_all.new.store) c.in_ok-files.files.items all))
-    c.requires.can.rising
+    (g.P.Snap.held c.args.snap.now) c.args.found.now.keys.items c.in_ok-files.files.items all.0
+    all.1)) c.requires.walks.0
 
 pub returns-in_err-text-clause-ends : goal.returns-in_err-text-clause-ends
 returns-in_err-text-clause-ends g c =
@@ -61,12 +60,12 @@ returns-in_err-text-clause-ends g c =
     c.args.found.now.keys.items c.args.found.now.schema.items
     (rose_of_node (g.P.Snap.faults c.args.snap.now) (g.P.Snap.faults c.place_all.new.snap)
     (g.S.Storage.state c.args.store.now).faults (g.S.Storage.state c.place_all.new.store).faults)
-    (Failed Memory) first.0 c.in_ok-files.files.items
+    (Failed Memory) c.in_ok-files.files.items
     (g.S.Storage.state c.args.store.now) (g.S.Storage.state c.put_meta.new.store)
     (g.S.Storage.state c.place_all.new.store)
     (g.S.Storage.stood_since c.args.store.now) (g.S.Storage.stood_since c.put_meta.new.store)
     (g.S.Storage.stood_since c.place_all.new.store)
-    (inr (inl refl), tt) first.1 all)
+    (inr (inl refl), tt) first all)
 
 pub returns-clause-ok : goal.returns-clause-ok
 returns-clause-ok g c =
@@ -75,28 +74,30 @@ returns-clause-ok g c =
     let all = rw c.as_slice-keys.ensures.value at c.in_ok-files.ensures.ok in
     let last = rw c.as_slice-bytes.ensures.value at (good c.put_meta-2.result
     c.in_ok-map_err-2.ensures.variant c.put_meta-2.ensures.ok) in
-    let names = files_names c.args.layout.now c.args.node.now c.args.name.now
-    (g.P.Snap.held c.args.snap.now) c.args.found.now.keys.items c.args.found.now.schema.items
-    (g.S.Storage.state c.put_meta.new.store) (g.S.Storage.state c.place_all.new.store)
-    (g.S.Storage.stood_since c.put_meta.new.store)
-    (g.S.Storage.stood_since c.place_all.new.store) c.in_ok-files.files.items c.requires.can
-    all in
-    let paths = files_paths c.args.layout.now c.args.node.now c.args.name.now
-    (g.P.Snap.held c.args.snap.now) c.args.found.now.keys.items
-    (g.S.Storage.state c.put_meta.new.store) (g.S.Storage.state c.place_all.new.store)
-    (g.S.Storage.stood_since c.put_meta.new.store)
-    (g.S.Storage.stood_since c.place_all.new.store) c.in_ok-files.files.items all in
-    copied_all c.args.layout.now c.args.node.now c.args.name.now (g.P.Snap.held c.args.snap.now)
-    c.args.found.now.keys.items c.args.found.now.schema.items first.0
-    c.in_ok-files.files.items c.in_ok-text.text.items last.0
+    all_made c.args.layout.now c.args.node.now c.args.name.now (g.P.Snap.held c.args.snap.now)
+    c.args.found.now.keys.items c.args.found.now.schema.items
+    (rose_of_node (g.P.Snap.faults c.args.snap.now) (g.P.Snap.faults c.place_all.new.snap)
+    (g.S.Storage.state c.args.store.now).faults (g.S.Storage.state c.put_meta-2.new.store).faults)
+    c.in_ok-files.files.items c.in_ok-text.text.items
     (g.S.Storage.state c.args.store.now) (g.S.Storage.state c.put_meta.new.store)
     (g.S.Storage.state c.place_all.new.store) (g.S.Storage.state c.put_meta-2.new.store)
     (g.S.Storage.stood_since c.args.store.now) (g.S.Storage.stood_since c.put_meta.new.store)
     (g.S.Storage.stood_since c.place_all.new.store)
     (g.S.Storage.stood_since c.put_meta-2.new.store)
-    c.in_ok-text.ensures.text
-    (c.in_ok-text.ensures.names c.args.layout.now c.args.node.now c.args.name.now names paths)
-    first.1 all last.1
+    c.in_ok-text.ensures.text first all last
+
+pub returns-clause-names : goal.returns-clause-names
+returns-clause-names g c =
+    let all = rw c.as_slice-keys.ensures.value at c.in_ok-files.ensures.ok in
+    subst (λ t. IsManifest c.args.layout.now c.args.node.now c.args.name.now t
+    c.in_ok-files.files.items) c.in_ok-text.ensures.text
+    (c.in_ok-text.ensures.names c.args.layout.now c.args.node.now c.args.name.now
+    (files_names c.args.layout.now c.args.node.now c.args.name.now
+    (g.P.Snap.held c.args.snap.now) c.args.found.now.keys.items c.in_ok-files.files.items all.0
+    all.1 c.requires.walks.1)
+    (files_paths c.args.layout.now c.args.node.now c.args.name.now
+    (g.P.Snap.held c.args.snap.now) c.args.found.now.keys.items c.in_ok-files.files.items all.0
+    all.1))
 
 pub returns-clause-ends : goal.returns-clause-ends
 returns-clause-ends g c =
@@ -109,13 +110,13 @@ returns-clause-ends g c =
     c.args.found.now.keys.items c.args.found.now.schema.items
     (rose_of_node (g.P.Snap.faults c.args.snap.now) (g.P.Snap.faults c.place_all.new.snap)
     (g.S.Storage.state c.args.store.now).faults (g.S.Storage.state c.put_meta-2.new.store).faults)
-    first.0 c.in_ok-files.files.items c.in_ok-text.text.items last.0
+    c.in_ok-files.files.items c.in_ok-text.text.items
     (g.S.Storage.state c.args.store.now) (g.S.Storage.state c.put_meta.new.store)
     (g.S.Storage.state c.place_all.new.store) (g.S.Storage.state c.put_meta-2.new.store)
     (g.S.Storage.stood_since c.args.store.now) (g.S.Storage.stood_since c.put_meta.new.store)
-    (g.S.Storage.stood_since c.place_all.new.store) (g.S.Storage.stood_since
-    c.put_meta-2.new.store)
-    c.in_ok-text.ensures.text first.1 all last.1
+    (g.S.Storage.stood_since c.place_all.new.store)
+    (g.S.Storage.stood_since c.put_meta-2.new.store)
+    c.in_ok-text.ensures.text first all last
 
 pub returns-in_err-map_err-2-clause-ends : goal.returns-in_err-map_err-2-clause-ends
 returns-in_err-map_err-2-clause-ends g c =
@@ -129,13 +130,13 @@ returns-in_err-map_err-2-clause-ends g c =
     c.args.found.now.keys.items c.args.found.now.schema.items
     (rose_of_node (g.P.Snap.faults c.args.snap.now) (g.P.Snap.faults c.place_all.new.snap)
     (g.S.Storage.state c.args.store.now).faults (g.S.Storage.state c.put_meta-2.new.store).faults)
-    (stop_of_fault c.in_err-map_err-2.field-0.0) first.0 c.in_ok-files.files.items
+    (stop_of_fault c.in_err-map_err-2.field-0.0) c.in_ok-files.files.items
     c.in_ok-text.text.items
     (g.S.Storage.state c.args.store.now) (g.S.Storage.state c.put_meta.new.store)
     (g.S.Storage.state c.place_all.new.store) (g.S.Storage.state c.put_meta-2.new.store)
     (g.S.Storage.stood_since c.args.store.now) (g.S.Storage.stood_since c.put_meta.new.store)
-    (g.S.Storage.stood_since c.place_all.new.store) (g.S.Storage.stood_since
-    c.put_meta-2.new.store)
+    (g.S.Storage.stood_since c.place_all.new.store)
+    (g.S.Storage.stood_since c.put_meta-2.new.store)
     (store_stop (Passed {T = Unit {0}}) _ _ (g.P.Snap.faults c.args.snap.now)
     (g.P.Snap.faults c.place_all.new.snap)
     (g.S.Storage.state c.args.store.now).faults (g.S.Storage.state c.place_all.new.store).faults
@@ -143,6 +144,6 @@ returns-in_err-map_err-2-clause-ends g c =
     c.in_err-map_err-2.field-0.0 c.in_err-map_err-2.ensures.variant c.in_err-map_err-2.ensures.cases
     (λ denied is. is) c.put_meta-2.ensures.cause.failed
     (omega (arith, c.put_meta.ensures.cause.later, c.place_all.ensures.store_later)))
-    c.in_ok-text.ensures.text first.1 all
+    c.in_ok-text.ensures.text first all
     (rw c.as_slice-bytes.ensures.value
     at (bad c.put_meta-2.result c.in_err-map_err-2.ensures.variant c.put_meta-2.ensures.err)))

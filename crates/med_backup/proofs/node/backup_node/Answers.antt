@@ -8,7 +8,9 @@ use Rattle.med_outside.specs.State.{ChangesWithin}
 use Rattle.med_outside.specs.World.{rose_of_node}
 use Rattle.med_outside.proofs.EndsLemmas.{carried}
 use Rattle.med_backup.specs.BackedUp.{IsBackedUpFrom}
-use Rattle.med_backup.specs.Plan.{IsMadeBy, Left, Leaves, opened_plan, stop_of}
+use Rattle.med_backup.specs.Copies.{IsMadeBy}
+use Rattle.med_backup.specs.Errors.{stop_of}
+use Rattle.med_backup.specs.Plan.{Left, Leaves, opened_plan}
 use Rattle.med_backup.specs.NodeConfig.{node_config_of, opened_at, snap_at}
 use Rattle.med_backup.proofs.NodeSteps.{same_content, made_after}
 use Rattle.med_backup.proofs.node.backup_node.Goals as goal

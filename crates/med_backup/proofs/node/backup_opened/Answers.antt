@@ -3,7 +3,9 @@ use Rattle.med_outside.specs.Counts.{tagged, with_closed, opened_once}
 use Rattle.med_outside.specs.Ends.{seen}
 use Rattle.med_outside.specs.World.{rose_of_node}
 use Rattle.med_outside.proofs.EndsLemmas.{carried_as}
-use Rattle.med_backup.specs.Plan.{ChangeLists, IsMadeBy, Left, worked, snapshot_plan, stop_of}
+use Rattle.med_backup.specs.Copies.{ChangeLists, IsMadeBy}
+use Rattle.med_backup.specs.Errors.{stop_of}
+use Rattle.med_backup.specs.Plan.{Left, worked, snapshot_plan}
 use Rattle.med_backup.specs.NodeConfig.{node_config_of, opened_at, snap_at, tag_of}
 use Rattle.med_backup.proofs.Denials.{value_of, counts_of}
 use Rattle.med_backup.proofs.NodeSteps.{closed_rose, on_ok}

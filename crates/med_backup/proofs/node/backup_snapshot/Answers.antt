@@ -2,8 +2,11 @@ use Rattle.std.proofs.Common.{Ok, Err}
 use Rattle.std.proofs.lemmas.Result.{err_from_is_err_and}
 use Rattle.med_outside.specs.World.{rose_of_node}
 use Rattle.med_outside.proofs.EndsLemmas.{carried, goes_on, stops_all}
-use Rattle.med_backup.specs.Plan.{IsMadeBy, look_plan, copy_plan, found_of, stop_of, stop_of_fault}
-use Rattle.med_backup.proofs.NodeSteps.{later_rose, same_content, made_later, copied_after}
+use Rattle.med_backup.specs.Copies.{IsMadeBy, HasAll}
+use Rattle.med_backup.specs.Errors.{stop_of, stop_of_fault}
+use Rattle.med_backup.specs.Plan.{look_plan, copy_plan}
+use Rattle.med_backup.proofs.Made.{made_later}
+use Rattle.med_backup.proofs.NodeSteps.{later_rose, same_content}
 use Rattle.med_backup.proofs.node.backup_snapshot.Goals as goal
 
 pub returns-in_err-found-clause-ends : goal.returns-in_err-found-clause-ends
@@ -33,15 +36,14 @@ returns-clause-ok g c = record {
   order = c.in_ok-found.found.keys.items;
   schema = c.in_ok-found.found.schema.items;
   found = c.in_ok-found.ensures.ok;
-  copied = copied_after c.args.layout.now c.args.node.now c.args.name.now
-      (g.P.Snap.held c.args.snap.now) c.in_ok-found.found.keys.items
-      c.in_ok-found.found.schema.items
-      (g.S.Storage.state c.args.store.now) (g.S.Storage.state c.look.new.store)
-      (g.S.Storage.state c.copy_found.new.store)
-      (g.S.Storage.stood_since c.args.store.now) (g.S.Storage.stood_since c.look.new.store)
-      (g.S.Storage.stood_since c.copy_found.new.store)
-      c.in_ok-files.files.items c.look.ensures.looks.moves
+  made = made_later (g.S.Storage.state c.args.store.now) (g.S.Storage.state c.look.new.store)
+      (g.S.Storage.state c.copy_found.new.store) (g.S.Storage.stood_since c.args.store.now)
+      (g.S.Storage.stood_since c.look.new.store) (g.S.Storage.stood_since c.copy_found.new.store)
+      c.look.ensures.looks.moves
+      (HasAll c.args.layout.now c.args.node.now c.args.name.now (g.P.Snap.held c.args.snap.now)
+      c.in_ok-found.found.keys.items c.in_ok-found.found.schema.items c.in_ok-files.files.items)
       (rw c.look.ensures.same at c.in_ok-files.ensures.ok);
+  manifest_is = c.in_ok-files.ensures.names;
 }
 
 pub returns-clause-ends : goal.returns-clause-ends
@@ -61,7 +63,7 @@ returns-clause-ends g c =
     (g.P.Snap.held c.args.snap.now) found.0 found.1) low
     (IsMadeBy (g.S.Storage.state c.args.store.now) (g.S.Storage.state c.look.new.store)
     (g.S.Storage.stood_since c.args.store.now) (g.S.Storage.stood_since c.look.new.store))
-    (found_of c.in_ok-found.found) (Ok c.in_ok-files.files.items)
+    (c.in_ok-found.found.keys.items, c.in_ok-found.found.schema.items) (Ok c.in_ok-files.files.items)
     (look_plan c.args.layout.now c.args.node.now c.args.name.now (g.P.Snap.held c.args.snap.now)
     (g.S.Storage.state c.args.store.now).content) c.in_ok-found.ensures.ends
     (carried mid rose
@@ -100,7 +102,7 @@ returns-in_err-files-clause-ends g c =
     (g.P.Snap.held c.args.snap.now) found.0 found.1) low
     (IsMadeBy (g.S.Storage.state c.args.store.now) (g.S.Storage.state c.look.new.store)
     (g.S.Storage.stood_since c.args.store.now) (g.S.Storage.stood_since c.look.new.store))
-    (found_of c.in_ok-found.found) (Err (stop_of_fault c.in_err-files.field-0.0))
+    (c.in_ok-found.found.keys.items, c.in_ok-found.found.schema.items) (Err (stop_of_fault c.in_err-files.field-0.0))
     (look_plan c.args.layout.now c.args.node.now c.args.name.now (g.P.Snap.held c.args.snap.now)
     (g.S.Storage.state c.args.store.now).content) c.in_ok-found.ensures.ends
     (carried mid rose

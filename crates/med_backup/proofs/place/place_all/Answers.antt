@@ -54,10 +54,11 @@ returns-in_err-record-clause-err g c =
     (g.S.Storage.state c.place.new.store)
     (g.S.Storage.stood_since c.args.store.now) (g.S.Storage.stood_since c.loop-key.store)
     (g.S.Storage.stood_since c.place.new.store)
+    c.loop-key.files.items
     (split_at c.args.keys.now c.loop-key.key-index c.key-item.result c.loop-key-test.true
     c.key-item.is)
-    c.loop-key.invariant.placed.places (rw c.loop-key.invariant.same at
-    c.in_err-record.ensures.err))
+    c.loop-key.invariant.placed
+    (rw c.loop-key.invariant.same at c.in_err-record.ensures.err))
 
 pub returns-in_err-push-clause-err : goal.returns-in_err-push-clause-err
 returns-in_err-push-clause-err g c =
@@ -69,13 +70,14 @@ returns-in_err-push-clause-err g c =
     (g.S.Storage.state c.place.new.store)
     (g.S.Storage.stood_since c.args.store.now) (g.S.Storage.stood_since c.loop-key.store)
     (g.S.Storage.stood_since c.place.new.store)
+    c.loop-key.files.items
     (split_at c.args.keys.now c.loop-key.key-index c.key-item.result c.loop-key-test.true
     c.key-item.is)
-    c.loop-key.invariant.placed.places
+    c.loop-key.invariant.placed
     (all_are_some _ _ _ (g.P.Snap.held c.args.snap.now) (c.key-item.result ∷ [])
     (g.S.Storage.state c.loop-key.store) (g.S.Storage.state c.place.new.store)
     (g.S.Storage.stood_since c.loop-key.store) (g.S.Storage.stood_since c.place.new.store)
-    one.places))
+    (c.in_ok-record.record ∷ []) one))
 
 pub returns-clause-ok : goal.returns-clause-ok
 returns-clause-ok g c =

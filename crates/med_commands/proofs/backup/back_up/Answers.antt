@@ -4,7 +4,8 @@ use Rattle.med_outside.specs.World.{world, rose_of, rose_of_node}
 use Rattle.med_outside.proofs.EndsLemmas.{carried_as, goes_on, stops_all}
 use Rattle.med_outside.proofs.Passing.{moves_at_rest}
 use Rattle.med_words.specs.Views.{asked_of}
-use Rattle.med_backup.specs.Plan.{Left, Leaves, node_plan, stop_of as stop_of_error}
+use Rattle.med_backup.specs.Errors.{stop_of as stop_of_error}
+use Rattle.med_backup.specs.Plan.{Left, Leaves, node_plan}
 use Rattle.med_backup.specs.NodeConfig.{node_config_of}
 use Rattle.med_commands.specs.Fault.{stop_of, fault_of_load}
 use Rattle.med_commands.specs.Headline.{says}
