@@ -12,8 +12,9 @@ use Rattle.med_outside.specs.Effects.{Effect, Stores}
 use Rattle.med_outside.specs.Snapshot.{Snapshot}
 use Rattle.med_outside.specs.State.{State, ChangesWithin, History}
 
--- ---- which lists of changes are meant
+-- ---- lists of changes
 
+-- some lists of changes: those of which this holds
 abbrev pub ChangeLists : Type 1
 ChangeLists = List Effect → Type 0
 
@@ -49,7 +50,7 @@ pub record Copy : Type 0 where
   pub second : ℕ
 
 abbrev pub key_of : Copy → FileKey
-key_of copy = copy.key
+key_of c = c.key
 
 -- these are bytes of files of the snapshot, where it is told
 abbrev pub AreOf : Option Snapshot → List Copy → Type 0

@@ -19,6 +19,7 @@ device_of fault.Snap = Nodes
 device_of fault.Store = Storage
 device_of fault.Memory = Memory
 
+-- how a fault ends a call
 abbrev pub stop_of_fault : CopyFault → Stop
 stop_of_fault fault = Failed (device_of fault)
 

@@ -43,6 +43,7 @@ Walks n held (Err (NoSnapshot name)) = (name ≡ n) × IfSome held (λ s. s.orde
 Walks n held (Err (BadFileName at)) = IfSome held (λ s. IsFirstBad at s.order)
 Walks n held (Err f) = ⊥
 
+-- the schema of the snapshot
 abbrev pub ReadsSchema : Option Snapshot → Result (List ℕ) Refusal → Type 0
 ReadsSchema held (Ok schema) = IfSome held (λ s. schema ≡ s.schema)
 ReadsSchema held (Err f) = ⊥
@@ -118,6 +119,7 @@ module _ (node_config : NodeConfig) (n : List ℕ) where
       said_as worked
       (snapshot_plan node_config.before node_config.node n (snap_at snaps node_config n) told))
 
+  -- the work on a node: the bucket, and then the same
   abbrev pub node_plan : Snapshots → Option Content → Plan Left (List FileRecord)
   node_plan snaps told =
       step {T = Unit {0}} Passed on_storage unopened (λ _. opened_plan snaps told)
