@@ -1,5 +1,5 @@
 -- A backup that was made is done, and how the command `backup` ends.
-use Rattle.std.proofs.Common.{◌≡◌, inl, inr, ℕ, List, [], map, Option, Some, None, IfSome, Result, Ok, Err, OnOk, OnErr, refl, sym, ap, ◌∙◌, subst, arith}
+use Rattle.std.proofs.Common.{◌≡◌, inl, inr, ℕ, List, [], map, Option, Some, None, IfSome, Result, Ok, Err, OnOk, OnErr, refl, sym, ◌∙◌, ap, subst, string_bytes, arith}
 use Rattle.std.specs.List.{AllByRecursion}
 use Rattle.std.specs.FinMap.{keys}
 use Rattle.std.proofs.lemmas.Option.{IfSome_then}
@@ -10,6 +10,12 @@ use Rattle.med_manifest.specs.declared.manifest.FileRecord.{FileRecord}
 use Rattle.med_manifest.specs.Manifest.{IsManifest}
 use Rattle.med_manifest.specs.Written.{manifest_text}
 use Rattle.med_base.specs.Content.{Content}
+use Rattle.med_ini.specs.Entries.{Entry}
+use Rattle.med_ini.specs.Grammar.{IsIni}
+use Rattle.med_ini.specs.Options.{Fault as OptionFault, missing, bad_number, bad_name, unsupported, config_fault}
+use Rattle.med_ini.specs.declared.config.ConfigError.TheVariants as options
+use Rattle.med_ini.specs.declared.errors.IniError.TheVariants as ini
+use Rattle.med_ini.specs.declared.overrides.Overrides.{Overrides}
 use Rattle.med_outside.specs.Causes.{RoseOrFull}
 use Rattle.med_outside.specs.Counts.{opened_once}
 use Rattle.med_outside.specs.Effects.{Effect, after_all}
@@ -28,12 +34,13 @@ use Rattle.med_backup.specs.NodeConfig.{NodeConfig, opened_at, snap_at}
 use Rattle.med_backup.specs.declared.look.BackupError.{BackupError}
 use Rattle.med_backup.specs.declared.look.BackupError.TheVariants as error
 use Rattle.med_backup.specs.declared.place.CopyFault.TheVariants as copy
-use Rattle.med_backup.proofs.Finished.{records_of, backup_puts, all_puts, finished, backup_of}
-use Rattle.med_commands.specs.Fault.{stop_of, fault_for, fault_of_load}
+use Rattle.med_backup.proofs.Finished.{finished, backup_of}
+use Rattle.med_commands.specs.Fault.{stop_of, stop_of_load, fault_for}
 use Rattle.med_commands.specs.Headline.{End, says}
-use Rattle.med_commands.specs.Loaded.{BlamesLoad}
+use Rattle.med_commands.specs.Loaded.{AreOverrides, IsConfigFile, IsRefused, no_file, no_ini, bad_option, BlamesLoad}
 use Rattle.med_commands.specs.Plans.{on_files, on_output, ReadsConfig, IfTold, IsDone, prints, backup_plan, action_plan, plan_of}
 use Rattle.med_commands.specs.Printed.{Wrote, WrotePart}
+use Rattle.med_commands.specs.Texts.{no_file_text, option_text}
 use Rattle.med_commands.specs.declared.fault.Fault.{Fault}
 use Rattle.med_commands.specs.declared.load.LoadError.{LoadError}
 use Rattle.med_commands.specs.declared.load.LoadError.TheVariants as load
@@ -131,13 +138,38 @@ done_of node_config n a b files m counts =
 
 -- ---- steps
 
--- why the site wasn't read
+-- an option is refused for this fault
+option_stop : {files : FileContents} {asked : Asked} (bytes : List ℕ) (over : Overrides)
+    (fault : OptionFault) → IsConfigFile files asked (Some bytes) → AreOverrides asked over
+    → (entries : List Entry) × IsIni bytes entries × (config_fault entries over ≡ Some fault)
+    → IsRefused files asked (option_text fault)
+option_stop bytes over fault file overrides (entries, is, first) =
+    bad_option bytes over fault file overrides
+    (record { entries = entries; ini = is; first = first }) refl
+
+-- why there is no configuration
 pub load_stop : (files : FileContents) (asked : Asked) (rose : Device → Type 0) (before now : ℕ)
     → (RoseOrFull before now → rose Files) → rose Memory → (e : LoadError)
     → BlamesLoad files asked before now e
-    → StopsAt rose (ReadsConfig files asked) on_files (stop_of (fault_of_load e))
-load_stop files asked rose before now up memory (load.Refused fault) h = (fault, h, refl)
-load_stop files asked rose before now up memory load.Read h = (inl refl, up h)
+    → StopsAt rose (ReadsConfig files asked) on_files (stop_of_load e)
+load_stop files asked rose before now up memory (load.NoFile name) h =
+    no_file h.1 (ap no_file_text h.0)
+load_stop files asked rose before now up memory (load.Ini (ini.Fault line kind)) h =
+    no_ini h.bytes line kind h.file h.blames refl
+load_stop files asked rose before now up memory (load.Ini ini.Memory) h =
+    (inr (inl refl), memory)
+load_stop files asked rose before now up memory (load.Options (options.MissingOption option)) h =
+    option_stop h.bytes h.over (missing option.now) h.file h.overrides h.blames
+load_stop files asked rose before now up memory (load.Options (options.BadNumber option)) h =
+    option_stop h.bytes h.over (bad_number option.now) h.file h.overrides h.blames
+load_stop files asked rose before now up memory (load.Options (options.BadName option)) h =
+    option_stop h.bytes h.over (bad_name option.now) h.file h.overrides h.blames
+load_stop files asked rose before now up memory (load.Options (options.UnsupportedProvider name))
+    h =
+    option_stop h.bytes h.over (unsupported (string_bytes name)) h.file h.overrides h.blames
+load_stop files asked rose before now up memory (load.Options options.Memory) h =
+    (inr (inl refl), memory)
+load_stop files asked rose before now up memory load.Files h = (inl refl, up h)
 load_stop files asked rose before now up memory load.Memory h = (inr (inl refl), memory)
 
 -- a fault of the command ends it as the error of the backup does

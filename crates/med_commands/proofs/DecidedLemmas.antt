@@ -13,10 +13,9 @@ use Rattle.med_words.specs.declared.request.WordsError.TheVariants as words_erro
 use Rattle.med_words.proofs.OneRequest.{one_request, asks_nothing}
 use Rattle.med_commands.specs.Decided.{is_built, IsAskedBackup, IsAskedOver, IsDecided}
 use Rattle.med_commands.specs.Headline.{End}
-use Rattle.med_commands.specs.Loaded.{IsConfigured, IsRefused, config_text}
+use Rattle.med_commands.specs.Loaded.{IsConfigured, IsRefused}
 use Rattle.med_commands.specs.Plans.{ReadsConfig, ReadsWords, backup_plan, unbuilt_plan, action_plan, plan_of, words_plan}
 use Rattle.med_commands.specs.Texts.{usage_text}
-use Rattle.med_commands.specs.declared.load.ConfigFault.{ConfigFault}
 use Rattle.med_commands.proofs.DecidedTexts.{one_usage, one_text}
 use Rattle.med_commands.proofs.DecidedWork.{by_answer, work, node_work, node_leads, free_leads, taken_leads, empty_leads, bad_key_leads}
 use Rattle.med_commands.proofs.OneNodeConfig.{one_node_config, not_refused}
@@ -40,26 +39,26 @@ module _ (asked : Asked) (n : List ℕ) (a b : World) (asks : IsAskedBackup aske
     where
       no : (f : Refusal) → ReadsConfig a.files.contents asked (Err f) → ⊥
       no (BadConfig text) h =
-          not_refused a.files.contents asked asks.file asks.file_is h.0 config configured h.1
+          not_refused a.files.contents asked asks.file asks.file_is text config configured h
       no (NoSnapshot name) h = h
       no (BadFileName at) h = h
       no (BadWords text) h = h
       no (NotBuilt word) h = h
       no (Taken name path) h = h
 
-  bad_config_leads : (fault : ConfigFault) → IsRefused a.files.contents asked fault
-      → Leads (plan_of asked a b) (Err (Refused (BadConfig (config_text fault))))
-  bad_config_leads fault refused =
-      backup_leads (Err (Refused (BadConfig (config_text fault))))
+  bad_config_leads : (text : List ℕ) → IsRefused a.files.contents asked text
+      → Leads (plan_of asked a b) (Err (Refused (BadConfig text)))
+  bad_config_leads text refused =
+      backup_leads (Err (Refused (BadConfig text)))
       (by_answer _ _ _
-      (λ node_config h. absurd (not_refused a.files.contents asked asks.file asks.file_is fault h.0
+      (λ node_config h. absurd (not_refused a.files.contents asked asks.file asks.file_is text h.0
       h.1 refused)) yes)
     where
       yes : (f : Refusal) → ReadsConfig a.files.contents asked (Err f)
-          → ◌≡◌ {A = End} (Err (Refused (BadConfig (config_text fault)))) (Err (Refused f))
-      yes (BadConfig text) h =
+          → ◌≡◌ {A = End} (Err (Refused (BadConfig text))) (Err (Refused f))
+      yes (BadConfig other) h =
           ap (λ (t : List ℕ). Err (Refused (BadConfig t)))
-          (one_text a.files.contents asked asks.file asks.file_is fault h.0 refused h.1 ∙ sym h.2)
+          (one_text a.files.contents asked asks.file asks.file_is text other refused h)
       yes (NoSnapshot name) h = absurd h
       yes (BadFileName at) h = absurd h
       yes (BadWords text) h = absurd h
@@ -158,7 +157,7 @@ decided a b = record {
   bad_file_name = λ asked node_config n s at over bad.
       over_snapshot asked node_config n a b s over (Err (Refused (BadFileName at)))
       (bad_key_leads node_config n a b _ _ s over.snapshot_is at bad);
-  no_config = λ asked n fault asks refused. bad_config_leads asked n a b asks fault refused;
+  no_config = λ asked n text asks refused. bad_config_leads asked n a b asks text refused;
   unbuilt = λ asked e. no_command asked.action asked a b e;
   words = λ words asked told is leads. words_lead words asked a b told is leads;
   bad_words = λ words usage blames. bad_words_lead words usage a b blames;

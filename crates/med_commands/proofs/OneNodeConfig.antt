@@ -9,11 +9,9 @@ use Rattle.med_ini.specs.declared.overrides.Overrides.{Overrides}
 use Rattle.med_ini.proofs.OneFault.{fault_none}
 use Rattle.med_ini.proofs.OneReading.{one_reading_of}
 use Rattle.med_words.specs.Request.{Asked}
-use Rattle.med_commands.specs.Loaded.{AreOverrides, Gives, HasBytes, IsConfigured, IsRefusedFor, BlamesFile, IsRefused}
+use Rattle.med_commands.specs.Loaded.{AreOverrides, IsConfigFile, Gives, IsConfigured, IsRefusedFor, IsRefused, no_file, no_ini, bad_option}
 use Rattle.med_backup.specs.NodeConfig.{NodeConfig, node_config_of}
 use Rattle.med_outside.specs.World.{FileContents}
-use Rattle.med_commands.specs.declared.load.ConfigFault.{ConfigFault}
-use Rattle.med_commands.specs.declared.load.ConfigFault.TheVariants.{NoFile, Line, Missing, BadNumber, BadName, Provider}
 
 -- ---- the texts of a file depend on its entries and on the bytes of the overrides
 
@@ -68,60 +66,52 @@ node_config_read t c d f g =
 
 module _ (files : FileContents) (asked : Asked) (file : Option (List ℕ))
     (told : files asked.config_file ≡ Some file) where
-  abbrev GivesIt : Config → Overrides → Type 0
-  GivesIt config over = HasBytes (λ bytes. Gives over bytes config) file
+  pub told_is : (other : Option (List ℕ)) → IsConfigFile files asked other → file ≡ other
+  told_is other is =
+      subst (λ (held : Option (Option (List ℕ))). IfSome held (λ f. f ≡ other)) told is
 
-  gives_it : (config : Config) (c : IsConfigured files asked config) → GivesIt config c.over
-  gives_it config c =
-      subst (λ (o : Option (Option (List ℕ))). IfSome o (HasBytes
-      (λ bytes. Gives c.over bytes config))) told c.gives
+  pub same_bytes : (x y : List ℕ) → IsConfigFile files asked (Some x)
+      → IsConfigFile files asked (Some y) → x ≡ y
+  same_bytes x y f g = same_Some x y (sym (told_is (Some x) f) ∙ told_is (Some y) g)
+
+  pub not_absent : (x : List ℕ) → IsConfigFile files asked None
+      → IsConfigFile files asked (Some x) → ⊥
+  not_absent x f g = let bad : Some x ≡ None = sym (told_is (Some x) g) ∙ told_is None f in cc bad
 
   pub one_node_config : (c d : Config) → IsConfigured files asked c → IsConfigured files asked d
       → node_config_of c ≡ node_config_of d
   one_node_config c d f g =
-      let x = gives_it c f in
-      let y = gives_it d g in
-      let bytes : x.0 ≡ y.0 = same_Some x.0 y.0 (sym x.1 ∙ y.1) in
-      let given : Gives g.over x.0 d = subst (λ (b : List ℕ). Gives g.over b d) (sym bytes) y.2 in
-      let entries = one_reading_of x.0 x.2.entries given.entries x.2.ini given.ini in
-      let texts = texts_same asked x.2.entries given.entries f.over g.over entries f.overrides
+      let bytes : g.bytes ≡ f.bytes = same_bytes g.bytes f.bytes g.file f.file in
+      let given : Gives g.over f.bytes d =
+      subst (λ (b : List ℕ). Gives g.over b d) bytes g.gives in
+      let entries = one_reading_of f.bytes f.gives.entries given.entries f.gives.ini given.ini in
+      let texts = texts_same asked f.gives.entries given.entries f.over g.over entries f.overrides
       g.overrides in
       node_config_read (texts_of given.entries g.over) c d
-      (subst (λ (t : Texts). IsRead t c) texts x.2.options.read) given.options.read
+      (subst (λ (t : Texts). IsRead t c) texts f.gives.options.read) given.options.read
 
   -- no check fails where the file gives a configuration
-  not_for : (fault : Fault) (config : Config) (c : IsConfigured files asked config)
-      (over : Overrides) → AreOverrides asked over
-      → HasBytes (λ bytes. IsRefusedFor fault over bytes) file → ⊥
-  not_for fault config c over overrides (bytes, is, refused) =
-      let x = gives_it config c in
-      let same : x.0 ≡ bytes = same_Some x.0 bytes (sym x.1 ∙ is) in
-      let again : IsRefusedFor fault over x.0 = subst (IsRefusedFor fault over) (sym same)
+  not_for : (bytes : List ℕ) (over : Overrides) (fault : Fault) (config : Config)
+      → IsConfigured files asked config → IsConfigFile files asked (Some bytes)
+      → AreOverrides asked over → IsRefusedFor fault over bytes → ⊥
+  not_for bytes over fault config c file_is overrides refused =
+      let same : bytes ≡ c.bytes = same_bytes bytes c.bytes file_is c.file in
+      let again : IsRefusedFor fault over c.bytes = subst (IsRefusedFor fault over) same
       refused in
-      let entries = one_reading_of x.0 x.2.entries again.entries x.2.ini again.ini in
-      let texts = texts_same asked x.2.entries again.entries c.over over entries c.overrides
+      let entries = one_reading_of c.bytes c.gives.entries again.entries c.gives.ini again.ini in
+      let texts = texts_same asked c.gives.entries again.entries c.over over entries c.overrides
       overrides in
       let none : config_fault again.entries over ≡ None =
-      ap (λ (t : Texts). first_of (checks t)) (sym texts) ∙ x.2.options.accepted in
+      ap (λ (t : Texts). first_of (checks t)) (sym texts) ∙ c.gives.options.accepted in
       let bad : Some fault ≡ None = sym again.first ∙ none in
       cc bad
 
-  pub not_refused : (fault : ConfigFault) (config : Config) → IsConfigured files asked config
-      → IsRefused files asked fault → ⊥
-  not_refused fault config c r =
-      go fault (subst (λ (o : Option (Option (List ℕ))). IfSome o
-      (λ f. BlamesFile r.over asked.config_file f fault)) told r.blames)
-    where
-      go : (f : ConfigFault) → BlamesFile r.over asked.config_file file f → ⊥
-      go (NoFile name) b =
-          let x = gives_it config c in
-          let bad : Some x.0 ≡ None = sym x.1 ∙ b.1 in cc bad
-      go (Line line kind) b =
-          let x = gives_it config c in
-          let same : b.0 ≡ x.0 = same_Some b.0 x.0 (sym b.1 ∙ x.1) in
-          fault_none x.0 line kind
-          (subst (λ (bytes : List ℕ). FaultOn bytes line kind) same b.2) x.2.entries x.2.ini
-      go (Missing option) b = not_for _ config c r.over r.overrides b
-      go (BadNumber option) b = not_for _ config c r.over r.overrides b
-      go (BadName option) b = not_for _ config c r.over r.overrides b
-      go (Provider name) b = not_for _ config c r.over r.overrides b
+  pub not_refused : (text : List ℕ) (config : Config) → IsConfigured files asked config
+      → IsRefused files asked text → ⊥
+  not_refused text config c (no_file is e) = not_absent c.bytes is c.file
+  not_refused text config c (no_ini bytes line kind is bad e) =
+      fault_none c.bytes line kind
+      (subst (λ (b : List ℕ). FaultOn b line kind) (same_bytes bytes c.bytes is c.file) bad)
+      c.gives.entries c.gives.ini
+  not_refused text config c (bad_option bytes over fault is overrides refused e) =
+      not_for bytes over fault config c is overrides refused

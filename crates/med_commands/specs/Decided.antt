@@ -15,10 +15,9 @@ use Rattle.med_words.specs.Blames.{BlamesWords}
 use Rattle.med_words.specs.Request.{Action, Asked, IsRequest, backup, word_of}
 use Rattle.med_words.specs.declared.request.Usage.{Usage}
 use Rattle.med_words.specs.declared.request.WordsError.TheVariants as words_error
-use Rattle.med_commands.specs.Loaded.{IsConfigured, IsRefused, config_text}
+use Rattle.med_commands.specs.Loaded.{IsConfigured, IsRefused}
 use Rattle.med_commands.specs.Plans.{plan_of, words_plan}
 use Rattle.med_commands.specs.Texts.{usage_text}
-use Rattle.med_commands.specs.declared.load.ConfigFault.{ConfigFault}
 
 -- ---- what is told
 
@@ -79,9 +78,9 @@ BadKeyIsRefused a b =
 
 -- the config file gives no configuration
 abbrev pub BadConfigIsRefused : World → World → Type 0
-BadConfigIsRefused a b = (asked : Asked) (n : List ℕ) (fault : ConfigFault)
-    → IsAskedBackup asked a n → IsRefused a.files.contents asked fault
-    → Leads (plan_of asked a b) (Err (Refused (BadConfig (config_text fault))))
+BadConfigIsRefused a b = (asked : Asked) (n text : List ℕ)
+    → IsAskedBackup asked a n → IsRefused a.files.contents asked text
+    → Leads (plan_of asked a b) (Err (Refused (BadConfig text)))
 
 -- ---- how all commands end
 

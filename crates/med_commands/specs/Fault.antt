@@ -1,27 +1,50 @@
 -- How each fault of the code ends a command.
-use Rattle.std.specs.Prelude.{ℕ, List}
+use Rattle.std.specs.Prelude.{ℕ, List, string_bytes}
 use Rattle.med_backup.specs.declared.look.BackupError.{BackupError}
 use Rattle.med_backup.specs.declared.look.BackupError.TheVariants as error
 use Rattle.med_backup.specs.declared.place.CopyFault.TheVariants as copy
+use Rattle.med_ini.specs.Options.{missing, bad_number, bad_name, unsupported}
+use Rattle.med_ini.specs.declared.config.ConfigError.{ConfigError}
+use Rattle.med_ini.specs.declared.config.ConfigError.TheVariants as options
+use Rattle.med_ini.specs.declared.errors.IniError.TheVariants as ini
 use Rattle.med_outside.specs.Ends as ends
 use Rattle.med_outside.specs.Ends.{Stop, Refused, Failed}
 use Rattle.med_commands.specs.Headline.{status_of_stop, text_of_stop}
-use Rattle.med_commands.specs.Loaded.{config_text}
-use Rattle.med_commands.specs.Texts.{usage_text}
+use Rattle.med_commands.specs.Texts.{usage_text, no_file_text, line_text, option_text}
 use Rattle.med_commands.specs.declared.fault.Fault.{Fault}
-use Rattle.med_commands.specs.declared.fault.Fault.TheVariants.{Usage, NotBuilt, Config, Taken, NoSnapshot, BadFileName, Files, Nodes, Storage, Output, Memory}
+use Rattle.med_commands.specs.declared.fault.Fault.TheVariants.{Usage, NotBuilt, Config, Taken, NoSnapshot, BadFileName, Nodes, Storage, Output, Memory}
 use Rattle.med_commands.specs.declared.load.LoadError.{LoadError}
 use Rattle.med_commands.specs.declared.load.LoadError.TheVariants as load
 use Rattle.med_commands.specs.declared.status.Status.{Status}
 
+-- the options of the config file are refused, or there was no memory
+abbrev pub stop_of_options : ConfigError → Stop
+stop_of_options (options.MissingOption option) =
+    Refused (ends.BadConfig (option_text (missing option.now)))
+stop_of_options (options.BadNumber option) =
+    Refused (ends.BadConfig (option_text (bad_number option.now)))
+stop_of_options (options.BadName option) =
+    Refused (ends.BadConfig (option_text (bad_name option.now)))
+stop_of_options (options.UnsupportedProvider name) =
+    Refused (ends.BadConfig (option_text (unsupported (string_bytes name))))
+stop_of_options options.Memory = Failed ends.Memory
+
+-- there is no configuration
+abbrev pub stop_of_load : LoadError → Stop
+stop_of_load (load.NoFile name) = Refused (ends.BadConfig (no_file_text (string_bytes name)))
+stop_of_load (load.Ini (ini.Fault line kind)) = Refused (ends.BadConfig (line_text line kind))
+stop_of_load (load.Ini ini.Memory) = Failed ends.Memory
+stop_of_load (load.Options error) = stop_of_options error
+stop_of_load load.Files = Failed ends.Files
+stop_of_load load.Memory = Failed ends.Memory
+
 abbrev pub stop_of : Fault → Stop
 stop_of (Usage usage) = Refused (ends.BadWords (usage_text usage))
 stop_of (NotBuilt word) = Refused (ends.NotBuilt word.now)
-stop_of (Config fault) = Refused (ends.BadConfig (config_text fault))
+stop_of (Config error) = stop_of_load error
 stop_of (Taken name path) = Refused (ends.Taken name path)
 stop_of (NoSnapshot name) = Refused (ends.NoSnapshot name)
 stop_of (BadFileName at) = Refused (ends.BadFileName at)
-stop_of Files = Failed ends.Files
 stop_of Nodes = Failed ends.Nodes
 stop_of Storage = Failed ends.Storage
 stop_of Output = Failed ends.Output
@@ -41,9 +64,3 @@ fault_for name (error.Taken path) = Taken name path
 fault_for name (error.Fault copy.Snap) = Nodes
 fault_for name (error.Fault copy.Store) = Storage
 fault_for name (error.Fault copy.Memory) = Memory
-
--- the fault of a command that has no configuration
-abbrev pub fault_of_load : LoadError → Fault
-fault_of_load (load.Refused fault) = Config fault
-fault_of_load load.Read = Files
-fault_of_load load.Memory = Memory

@@ -19,11 +19,10 @@ use Rattle.med_words.specs.Blames.{BlamesWords}
 use Rattle.med_words.specs.Request.{Action, Asked, IsRequest, backup, word_of}
 use Rattle.med_words.specs.declared.request.Usage.{Usage}
 use Rattle.med_words.specs.declared.request.WordsError.TheVariants as words_error
-use Rattle.med_commands.specs.Loaded.{IsConfigured, IsRefused, config_text}
+use Rattle.med_commands.specs.Loaded.{IsConfigured, IsRefused}
 use Rattle.med_commands.specs.Printed.{Wrote, WrotePart}
 use Rattle.med_commands.specs.Report.{report_line}
 use Rattle.med_commands.specs.Texts.{usage_text}
-use Rattle.med_commands.specs.declared.load.ConfigFault.{ConfigFault}
 
 -- ---- what steps ask
 
@@ -42,8 +41,7 @@ on_memory = Memory ∷ []
 abbrev pub ReadsConfig : FileContents → Asked → Result NodeConfig Refusal → Type 0
 ReadsConfig files asked (Ok node_config) =
     (config : Config) × IsConfigured files asked config × (node_config ≡ node_config_of config)
-ReadsConfig files asked (Err (BadConfig text)) =
-    (fault : ConfigFault) × IsRefused files asked fault × (text ≡ config_text fault)
+ReadsConfig files asked (Err (BadConfig text)) = IsRefused files asked text
 ReadsConfig files asked (Err f) = ⊥
 
 -- what the words ask for; or they ask for nothing, which is told

@@ -1,6 +1,7 @@
 -- The texts of refusals.
 use Rattle.std.specs.Prelude.{ℕ, List, ◌++◌, codes, decimal}
 use Rattle.med_backup.specs.NodeConfig.{tag_of}
+use Rattle.med_ini.specs.Options.{Fault, missing, bad_number, bad_name, unsupported}
 use Rattle.med_ini.specs.Texts.{kind_text}
 use Rattle.med_ini.specs.declared.errors.IniKind.{IniKind}
 use Rattle.med_words.specs.declared.request.Usage.{Usage}
@@ -24,17 +25,12 @@ no_file_text name = codes "config: no file " ++ name
 abbrev pub line_text : ℕ → IniKind → List ℕ
 line_text line kind = codes "config: line " ++ (decimal line ++ (codes ": " ++ kind_text kind))
 
-abbrev pub missing_text : List ℕ → List ℕ
-missing_text option = codes "config: missing option " ++ option
-
-abbrev pub bad_number_text : List ℕ → List ℕ
-bad_number_text option = codes "config: bad number " ++ option
-
-abbrev pub bad_name_text : List ℕ → List ℕ
-bad_name_text option = codes "config: bad name " ++ option
-
-abbrev pub provider_text : List ℕ → List ℕ
-provider_text name = codes "config: unsupported provider " ++ name
+-- why the options of the config file are refused
+abbrev pub option_text : Fault → List ℕ
+option_text (missing option) = codes "config: missing option " ++ option
+option_text (bad_number option) = codes "config: bad number " ++ option
+option_text (bad_name option) = codes "config: bad name " ++ option
+option_text (unsupported provider) = codes "config: unsupported provider " ++ provider
 
 abbrev pub taken_text : List ℕ → List ℕ → List ℕ
 taken_text name path = codes "name " ++ (name ++ (codes " is taken by " ++ path))

@@ -12,7 +12,7 @@ ghost use Rattle.med_commands.specs.Plans.{on_output, plan_of};
 ghost use Rattle.med_commands.specs.Printed.{Wrote, WrotePart};
 ghost use Rattle.med_commands.specs.Report.{report_line};
 
-use crate::fault::{Fault, fault_of, fault_without_config};
+use crate::fault::{Fault, fault_of};
 use crate::load::load;
 use crate::print::write_whole;
 use crate::report::line_of;
@@ -80,10 +80,7 @@ pub(crate) fn back_up<F: Files, S: Storage, N: Nodes, O: Sink>(
         Ok(name) => name,
         Err(NoMemory) => return Err(Fault::Memory),
     };
-    let config = match load(alloc, files, request) {
-        Ok(config) => config,
-        Err(error) => return Err(fault_without_config(error)),
-    };
+    let config = load(alloc, files, request)?;
     match backup_node(alloc, store, nodes, &config, name) {
         Ok(records) => print_line(alloc, name, &config.node, records.as_slice(), out),
         Err(error) => Err(fault_of(told_name, error)),

@@ -1,12 +1,13 @@
 // The faults of a command, and their texts, which take no memory to print.
 ghost use Rattle.std.specs.Prelude.{◌≡◌, ◌≤◌, OnErr};
 ghost use Rattle.med_outside.specs.Causes.{RoseOrFull};
-ghost use Rattle.med_commands.specs.Fault.{fault_text, fault_for, fault_of_load, status_of_fault};
+ghost use Rattle.med_commands.specs.Fault.{fault_text, fault_for, status_of_fault};
 ghost use Rattle.med_commands.specs.Texts.{usage_text, taken_text, no_snapshot_text, bad_file_text};
 ghost use Rattle.med_commands.specs.Printed.{Prints, Complains, complaint};
+ghost use Rattle.med_commands.specs.declared.fault.Fault.TheVariants.{Config};
 
 use crate::Status;
-use crate::load::{ConfigFault, LoadError};
+use crate::load::LoadError;
 use crate::print::{say, say_named, write_pieces};
 use crate::print_config::say_config;
 use itoa::Buffer;
@@ -20,12 +21,11 @@ use med_words::Usage;
 pub(crate) enum Fault {
     Usage(Usage),
     NotBuilt { word: &'static str },
-    Config(ConfigFault),
+    /// There is no configuration.
+    Config(LoadError),
     Taken { name: BackupName, path: ObjPath },
     NoSnapshot { name: BackupName },
     BadFileName { at: usize },
-    /// The files' count of faults rose.
-    Files,
     /// The count of faults of the nodes or of a snapshot rose.
     Nodes,
     /// The storage's count of faults rose.
@@ -49,14 +49,11 @@ pub(crate) fn fault_of(name: BackupName, error: BackupError) -> Fault
     }
 }
 
-/// The fault of a command that has no configuration.
-pub(crate) fn fault_without_config(error: LoadError) -> Fault
-    ensures { result ≡ fault_of_load error }
-{
-    match error {
-        LoadError::Refused(fault) => Fault::Config(fault),
-        LoadError::Read => Fault::Files,
-        LoadError::Memory => Fault::Memory,
+impl From<LoadError> for Fault {
+    ghost from_gives = { λ error fault. fault ≡ Config error };
+
+    fn from(error: LoadError) -> Self {
+        Fault::Config(error)
     }
 }
 
@@ -67,10 +64,10 @@ impl Fault {
     {
         match self {
             Fault::Usage(_) | Fault::NotBuilt { word: _ } => Status::Usage,
-            Fault::Config(_) => Status::Config,
+            Fault::Config(error) => error.status(),
             Fault::Taken { name: _, path: _ } => Status::Taken,
             Fault::NoSnapshot { name: _ } | Fault::BadFileName { at: _ } => Status::BadSnapshot,
-            Fault::Files | Fault::Nodes => Status::ReadFault,
+            Fault::Nodes => Status::ReadFault,
             Fault::Storage => Status::StorageFault,
             Fault::Output => Status::WriteFault,
             Fault::Memory => Status::Memory,
@@ -151,11 +148,11 @@ fn say_fault<E: Sink>(err: &mut E, fault: &Fault) -> Result<(), SinkFailed>
     match fault {
         Fault::Usage(usage) => say_usage(err, usage),
         Fault::NotBuilt { word } => say_named(err, b"not built ", word.as_bytes()),
-        Fault::Config(fault) => say_config(err, fault),
+        Fault::Config(error) => say_config(err, error),
         Fault::Taken { name, path } => say_taken(err, name.as_str(), path.as_str()),
         Fault::NoSnapshot { name } => say_no_snapshot(err, name.as_str()),
         Fault::BadFileName { at } => say_bad_file(err, *at),
-        Fault::Files | Fault::Nodes => say(err, b"read fault"),
+        Fault::Nodes => say(err, b"read fault"),
         Fault::Storage => say(err, b"storage fault"),
         Fault::Output => say(err, b"write fault"),
         Fault::Memory => say(err, b"out of memory"),

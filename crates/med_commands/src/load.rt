@@ -1,37 +1,62 @@
 // The configuration of a command, read from its config file.
 ghost use Rattle.std.specs.Prelude.{◌≡◌, ◌≤◌, IfOk, IfErr};
 ghost use Rattle.med_words.specs.Views.{asked_of};
+ghost use Rattle.med_commands.specs.Fault.{stop_of_load};
+ghost use Rattle.med_commands.specs.Headline.{status_of_stop};
 ghost use Rattle.med_commands.specs.Loaded.{Gives, IsConfigured, BlamesReading, BlamesLoad};
+ghost use Rattle.med_commands.specs.declared.load.LoadError.TheVariants.{Ini, Options};
 
-use med_ini::{Config, ConfigError, IniError, IniKind, Overrides, read_ini};
+use crate::Status;
+use med_ini::{Config, ConfigError, IniError, Overrides, read_ini};
 use med_outside::{Denied, Files};
 use med_words::Request;
 use std::alloc::{AllocError, Global};
 
-/// Why the config file gives no configuration.
-#[derive(Debug, Drop)]
-pub(crate) enum ConfigFault {
-    /// There is no such file.
-    NoFile { name: String },
-    /// A line is none of the ini form. Lines count from 1.
-    Line { line: u64, kind: IniKind },
-    /// An option that must be there is absent or empty.
-    Missing { option: &'static str },
-    /// The text of an option is no number.
-    BadNumber { option: &'static str },
-    /// The text of an option is no name.
-    BadName { option: &'static str },
-    /// The storage has another provider than `local`.
-    Provider { name: String },
-}
-
 /// Why a command has no configuration.
 #[derive(Debug, Drop)]
 pub(crate) enum LoadError {
-    Refused(ConfigFault),
+    /// There is no config file of this name.
+    NoFile { name: String },
+    /// The config file isn't in the ini form.
+    Ini(IniError),
+    /// The options are refused.
+    Options(ConfigError),
     /// The files' count of faults rose.
-    Read,
+    Files,
     Memory,
+}
+
+impl From<IniError> for LoadError {
+    ghost from_gives = { λ error e. e ≡ Ini error };
+
+    fn from(error: IniError) -> Self {
+        LoadError::Ini(error)
+    }
+}
+
+impl From<ConfigError> for LoadError {
+    ghost from_gives = { λ error e. e ≡ Options error };
+
+    fn from(error: ConfigError) -> Self {
+        LoadError::Options(error)
+    }
+}
+
+impl LoadError {
+    /// The status that the program ends with after this error.
+    pub(crate) fn status(&self) -> Status
+        ensures { result ≡ status_of_stop (stop_of_load self.now) }
+    {
+        match self {
+            LoadError::Files => Status::ReadFault,
+            LoadError::Ini(IniError::Memory)
+            | LoadError::Options(ConfigError::Memory)
+            | LoadError::Memory => Status::Memory,
+            LoadError::NoFile { name: _ } | LoadError::Ini(_) | LoadError::Options(_) => {
+                Status::Config
+            }
+        }
+    }
 }
 
 // The configuration that the bytes of a config file give.
@@ -39,22 +64,8 @@ fn config_in(alloc: Global, bytes: &[u8], over: &Overrides) -> Result<Config, Lo
     ensures ok { IfOk result (Gives over.now bytes.now) }
     ensures err { IfErr result (BlamesReading over.now bytes.now) }
 {
-    let ini = match read_ini(alloc, bytes) {
-        Ok(ini) => ini,
-        Err(IniError::Fault { line, kind }) => {
-            return Err(LoadError::Refused(ConfigFault::Line { line, kind }));
-        }
-        Err(IniError::Memory) => return Err(LoadError::Memory),
-    };
-    let fault = match Config::from_ini(alloc, &ini, over) {
-        Ok(config) => return Ok(config),
-        Err(ConfigError::MissingOption { option }) => ConfigFault::Missing { option },
-        Err(ConfigError::BadNumber { option }) => ConfigFault::BadNumber { option },
-        Err(ConfigError::BadName { option }) => ConfigFault::BadName { option },
-        Err(ConfigError::UnsupportedProvider { name }) => ConfigFault::Provider { name },
-        Err(ConfigError::Memory) => return Err(LoadError::Memory),
-    };
-    Err(LoadError::Refused(fault))
+    let ini = read_ini(alloc, bytes)?;
+    Ok(Config::from_ini(alloc, &ini, over)?)
 }
 
 /// The configuration that the request asks for: that of its config file, under its overrides. The
@@ -77,8 +88,8 @@ pub(crate) fn load<F: Files>(
     };
     match files.read(alloc, request.config_file.as_str()) {
         Ok(Some(bytes)) => config_in(alloc, bytes.as_slice(), &request.over),
-        Ok(None) => Err(LoadError::Refused(ConfigFault::NoFile { name })),
-        Err(Denied::Failed) => Err(LoadError::Read),
+        Ok(None) => Err(LoadError::NoFile { name }),
+        Err(Denied::Failed) => Err(LoadError::Files),
         Err(Denied::Memory) => Err(LoadError::Memory),
     }
 }

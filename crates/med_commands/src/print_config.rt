@@ -1,14 +1,15 @@
-// The texts of a config file that gives no configuration.
+// The texts of a command that has no configuration.
 ghost use Rattle.std.specs.Prelude.{◌≤◌, OnErr};
 ghost use Rattle.med_outside.specs.Causes.{RoseOrFull};
-ghost use Rattle.med_commands.specs.Loaded.{config_text};
+ghost use Rattle.med_commands.specs.Fault.{stop_of_load, stop_of_options};
+ghost use Rattle.med_commands.specs.Headline.{text_of_stop};
 ghost use Rattle.med_commands.specs.Texts.{line_text};
 ghost use Rattle.med_commands.specs.Printed.{Prints, complaint};
 
-use crate::load::ConfigFault;
-use crate::print::{say_named, write_pieces};
+use crate::load::LoadError;
+use crate::print::{say, say_named, write_pieces};
 use itoa::Buffer;
-use med_ini::IniKind;
+use med_ini::{ConfigError, IniError, IniKind};
 use med_outside::{Sink, SinkFailed};
 
 fn say_line<E: Sink>(err: &mut E, line: u64, kind: IniKind) -> Result<(), SinkFailed>
@@ -31,25 +32,39 @@ fn say_line<E: Sink>(err: &mut E, line: u64, kind: IniKind) -> Result<(), SinkFa
     )
 }
 
-/// Tells why a config file gives no configuration, in one line.
-pub(crate) fn say_config<E: Sink>(err: &mut E, fault: &ConfigFault) -> Result<(), SinkFailed>
-    ensures text { Prints (complaint (config_text fault.now)) (E.state err.old).taken (E.state err.new).taken
-        result }
+fn say_options<E: Sink>(err: &mut E, error: &ConfigError) -> Result<(), SinkFailed>
+    ensures text { Prints (complaint (text_of_stop (stop_of_options error.now)))
+        (E.state err.old).taken (E.state err.new).taken result }
     ensures later { (E.state err.old).faults ≤ (E.state err.new).faults }
     ensures failed { OnErr result (RoseOrFull (E.state err.old).faults (E.state err.new).faults) }
 {
-    match fault {
-        ConfigFault::NoFile { name } => say_named(err, b"config: no file ", name.as_bytes()),
-        ConfigFault::Line { line, kind } => say_line(err, *line, *kind),
-        ConfigFault::Missing { option } => {
+    match error {
+        ConfigError::MissingOption { option } => {
             say_named(err, b"config: missing option ", option.as_bytes())
         }
-        ConfigFault::BadNumber { option } => {
+        ConfigError::BadNumber { option } => {
             say_named(err, b"config: bad number ", option.as_bytes())
         }
-        ConfigFault::BadName { option } => say_named(err, b"config: bad name ", option.as_bytes()),
-        ConfigFault::Provider { name } => {
+        ConfigError::BadName { option } => say_named(err, b"config: bad name ", option.as_bytes()),
+        ConfigError::UnsupportedProvider { name } => {
             say_named(err, b"config: unsupported provider ", name.as_bytes())
         }
+        ConfigError::Memory => say(err, b"out of memory"),
+    }
+}
+
+/// Tells why there is no configuration, in one line.
+pub(crate) fn say_config<E: Sink>(err: &mut E, error: &LoadError) -> Result<(), SinkFailed>
+    ensures text { Prints (complaint (text_of_stop (stop_of_load error.now)))
+        (E.state err.old).taken (E.state err.new).taken result }
+    ensures later { (E.state err.old).faults ≤ (E.state err.new).faults }
+    ensures failed { OnErr result (RoseOrFull (E.state err.old).faults (E.state err.new).faults) }
+{
+    match error {
+        LoadError::NoFile { name } => say_named(err, b"config: no file ", name.as_bytes()),
+        LoadError::Ini(IniError::Fault { line, kind }) => say_line(err, *line, *kind),
+        LoadError::Options(error) => say_options(err, error),
+        LoadError::Files => say(err, b"read fault"),
+        LoadError::Ini(IniError::Memory) | LoadError::Memory => say(err, b"out of memory"),
     }
 }

@@ -1,4 +1,5 @@
 use Rattle.std.proofs.Common.{Ok, Err, inl, inr, refl}
+use Rattle.std.proofs.lemmas.Result.{err_from_is_err_and}
 use Rattle.med_outside.specs.Ends.{Failed, Memory, seen, said_as}
 use Rattle.med_outside.specs.World.{world, rose_of, rose_of_node}
 use Rattle.med_outside.proofs.EndsLemmas.{carried_as, goes_on, stops_all}
@@ -7,7 +8,7 @@ use Rattle.med_words.specs.Views.{asked_of}
 use Rattle.med_backup.specs.Errors.{stop_of as stop_of_error}
 use Rattle.med_backup.specs.Plan.{Left, Leaves, node_plan}
 use Rattle.med_backup.specs.NodeConfig.{node_config_of}
-use Rattle.med_commands.specs.Fault.{stop_of, fault_of_load}
+use Rattle.med_commands.specs.Fault.{stop_of, stop_of_load}
 use Rattle.med_commands.specs.Headline.{says}
 use Rattle.med_commands.specs.Plans.{IsSilent, IsDone, prints}
 use Rattle.med_commands.specs.Report.{report_line}
@@ -22,20 +23,21 @@ returns-in-Err-clause-ends g c =
     asked_plan (asked_of c.args.request.now) c.args.name.now a a (Err (Failed Memory)) c.requires
     (inl ((inr (inl refl), tt), (refl, moves_at_rest a.store a.stood, refl, refl)))
 
-pub returns-in-Err-load-clause-ends : goal.returns-in-Err-load-clause-ends
-returns-in-Err-load-clause-ends g c =
+pub returns-in_err-config-clause-ends : goal.returns-in_err-config-clause-ends
+returns-in_err-config-clause-ends g c =
     let a = (world (g.F.Files.state c.args.files.now) (g.N.Nodes.state c.args.nodes.now)
     (g.S.Storage.state c.args.store.now) (g.S.Storage.stood_since c.args.store.now)
     (g.O.Sink.state c.args.out.now)) in
     let b = (world (g.F.Files.state c.load.new.files) (g.N.Nodes.state c.args.nodes.now)
     (g.S.Storage.state c.args.store.now) (g.S.Storage.stood_since c.args.store.now)
     (g.O.Sink.state c.args.out.now)) in
-    rw c.fault_without_config.ensures
+    let p = err_from_is_err_and c.from_residual.result c.from_residual.ensures.1 in
+    rw (p.1, p.2)
     (asked_plan (asked_of c.args.request.now) c.args.name.now a b
-    (Err (stop_of (fault_of_load c.in-Err-load.error))) c.requires
+    (Err (stop_of_load c.in_err-config.field-0.0)) c.requires
     (inl (
       load_stop a.files.contents (asked_of c.args.request.now) (rose_of a b) a.files.faults
-          b.files.faults (λ h. h) tt c.in-Err-load.error c.in-Err-load.ensures.err,
+          b.files.faults (λ h. h) tt c.in_err-config.field-0.0 c.in_err-config.ensures.err,
       (refl, moves_at_rest a.store a.stood, refl, refl),
     )))
 
@@ -47,7 +49,7 @@ returns-in-Err-backup_node-clause-ends g c =
     let b = (world (g.F.Files.state c.load.new.files) (g.N.Nodes.state c.backup_node.new.nodes)
     (g.S.Storage.state c.backup_node.new.store) (g.S.Storage.stood_since c.backup_node.new.store)
     (g.O.Sink.state c.args.out.now)) in
-    let node_config = node_config_of c.in-Ok-load.config in
+    let node_config = node_config_of c.in_ok-config.config in
     let low = rose_of_node a.nodes.faults b.nodes.faults a.store.faults b.store.faults in
     let means = Leaves a.nodes b.nodes a.store b.store a.stood b.stood in
     let plan = node_plan node_config c.args.name.now a.nodes.snaps a.store.content in
@@ -57,7 +59,7 @@ returns-in-Err-backup_node-clause-ends g c =
     (asked_plan (asked_of c.args.request.now) c.args.name.now a b (Err stop) c.requires
     (inr (
       node_config,
-      (c.in-Ok-load.config, c.in-Ok-load.ensures.ok, refl),
+      (c.in_ok-config.config, c.in_ok-config.ensures.ok, refl),
       stops_all (rose_of a b) says
           (λ files. prints (report_line c.args.name.now node_config.node files)
           (IsDone node_config c.args.name.now a b files) a b) stop (said_as word plan)
@@ -73,7 +75,7 @@ returns-in-Ok-backup_node-clause-ends g c =
     let b = (world (g.F.Files.state c.load.new.files) (g.N.Nodes.state c.backup_node.new.nodes)
     (g.S.Storage.state c.backup_node.new.store) (g.S.Storage.stood_since c.backup_node.new.store)
     (g.O.Sink.state c.print_line.new.out)) in
-    let node_config = node_config_of c.in-Ok-load.config in
+    let node_config = node_config_of c.in_ok-config.config in
     let files = c.in-Ok-backup_node.records.items in
     let end = seen (λ (x : Unit {0}). x) stop_of c.print_line.result in
     let low = rose_of_node a.nodes.faults b.nodes.faults a.store.faults b.store.faults in
@@ -83,7 +85,7 @@ returns-in-Ok-backup_node-clause-ends g c =
     asked_plan (asked_of c.args.request.now) c.args.name.now a b end c.requires
     (inr (
       node_config,
-      (c.in-Ok-load.config, c.in-Ok-load.ensures.ok, refl),
+      (c.in_ok-config.config, c.in_ok-config.ensures.ok, refl),
       goes_on (rose_of a b) says
           (λ files. prints (report_line c.args.name.now node_config.node files)
           (IsDone node_config c.args.name.now a b files) a b) (rose_of a b) (λ w. Unit {0}) files
