@@ -24,7 +24,8 @@ use Rattle.med_outside.specs.Snapshot.{Snapshot}
 use Rattle.med_outside.proofs.EndsLemmas.{stops}
 use Rattle.med_outside.specs.World.{FileContents, World, IsLater, rose_of, rose_of_node, rose_of_output}
 use Rattle.med_outside.specs.declared.mode.Mode.TheVariants.{Full}
-use Rattle.med_words.specs.Request.{Action, Asked, backup}
+use Rattle.med_words.specs.Request.{Asked}
+use Rattle.med_words.specs.Tables.{Action, backup}
 use Rattle.med_backup.specs.BackedUp.{IsBackedUpFrom}
 use Rattle.med_backup.specs.Backup.{FinishesBackup, IsBackupOf}
 use Rattle.med_backup.specs.Copies.{Copy, key_of, AreOf}

@@ -5,7 +5,7 @@ ghost use Rattle.med_outside.specs.Ends.{Ends, Steps, seen};
 ghost use Rattle.med_outside.specs.World.{world, rose_of, rose_of_output, IsLater};
 ghost use Rattle.med_backup.specs.Plan.{Passed};
 ghost use Rattle.med_words.specs.Views.{asked_of};
-ghost use Rattle.med_words.specs.Request.{backup};
+ghost use Rattle.med_words.specs.Tables.{backup};
 ghost use Rattle.med_commands.specs.Fault.{stop_of};
 ghost use Rattle.med_commands.specs.Headline.{says};
 ghost use Rattle.med_commands.specs.Plans.{on_output, plan_of};

@@ -43,9 +43,7 @@ fn run<F: Files, S: Storage, N: Nodes, O: Sink>(
             name,
             mode: Mode::Full,
         } => back_up(alloc, request, name, files, store, nodes, out),
-        command => Err(Fault::NotBuilt {
-            word: command.word(),
-        }),
+        _ => Err(Fault::NotBuilt { word: request.word }),
     }
 }
 

@@ -17,3 +17,4 @@ pub mod LineLemmas
 pub mod SaidLemmas
 pub mod TheTables
 pub mod FirstLook
+pub mod ActionFor

@@ -1,6 +1,6 @@
 -- Which values stand on a line, by its command word.
 use Rattle.std.proofs.Common.{◌≡◌, ◌∙◌, ◌&&◌, ◌||◌, Bool, true, false, not, true≢false, refl, sym, ap, List, [], ◌∷◌, Option, Some, None, codes, filter, is_some, map}
-use Rattle.std.specs.List.{list_all, list_any, AllByRecursion}
+use Rattle.std.specs.List.{list_any, AllByRecursion}
 use Rattle.std.specs.Str.{bytes_eq}
 use Rattle.std.proofs.lemmas.Bool.{and_parts, not-true}
 use Rattle.med_words.specs.Grammar.{Text, Row, value_in}
@@ -10,7 +10,7 @@ use Rattle.med_words.specs.Values.{given_or}
 use Rattle.med_words.specs.Views.{HasLine}
 use Rattle.med_words.specs.declared.line.Line.{Line}
 use Rattle.med_words.proofs.OwnLemmas.{of_row, needs, needed_value, no_value}
-use Rattle.med_base.proofs.Bools.{or_right, or_left, same_bytes, bytes_same}
+use Rattle.med_base.proofs.Bools.{or_left, same_bytes}
 
 -- the commands that take the name of a backup, and the others
 abbrev takes_name : Row → Bool
@@ -21,10 +21,6 @@ with_names = map (λ (c : Row). c.0) (filter takes_name commands)
 
 abbrev pub without_names : List Text
 without_names = map (λ (c : Row). c.0) (filter (λ c. not (takes_name c)) commands)
-
--- whether the command of this word needs the option
-abbrev asks : Text → Text → Row → Bool
-asks w n c = not (bytes_eq c.0 w) || (needs n c.1 && not (has_flag n c.1))
 
 -- whether a command with the option is among these
 abbrev takes_among : Text → List Text → Row → Bool
@@ -50,22 +46,13 @@ read_some read None x e = cc e
 read_some read (Some t) x e = refl
 
 module _ (words : List Text) (l : Line) (h : HasLine words l) where
-  value_of_needed : (n : Text) (b : Bool)
+  value_of_needed : (n : Text)
       → (needs n h.line.options && not (has_flag n h.line.options)) ≡ true
       → is_some (value_in n h.own) ≡ true
-  value_of_needed n b e =
+  value_of_needed n e =
       let parts = and_parts (needs n h.line.options) (not (has_flag n h.line.options)) e in
       needed_value h.line.options h.own n h.line.own_fit h.line.own_required
       (not-true (has_flag n h.line.options) parts.1) parts.0
-
-  -- a required option has a value
-  pub needed : (w n : Text) → list_all (asks w n) commands ≡ true → l.word.now ≡ w
-      → is_some (value_in n h.own) ≡ true
-  needed w n all e =
-      let row = of_row (asks w n) commands all l.word.now h.line.options h.line.command_is in
-      let same : not (bytes_eq l.word.now w) ≡ false =
-      ap (λ v. not (bytes_eq l.word.now v)) (sym e) ∙ ap not (bytes_same l.word.now) in
-      value_of_needed n true (or_right (not (bytes_eq l.word.now w)) _ row same)
 
   -- a command to which a name of a backup is given is one of those that take it
   pub named : (name : Text) (read : Text → Option Text)
@@ -87,6 +74,6 @@ module _ (words : List Text) (l : Line) (h : HasLine words l) where
       let n = codes "backup-name" in
       let row = of_row (needs_or_among n without_names) commands refl l.word.now h.line.options
       h.line.command_is in
-      let some = value_of_needed n true
+      let some = value_of_needed n
       (or_left _ _ row (none_among l.word.now without_names none)) in
       true≢false (sym some ∙ ap is_some e)

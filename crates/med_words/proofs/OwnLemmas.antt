@@ -42,7 +42,7 @@ used_step : (us : List Use) (n v : Text) (b : Bool) → (b || is_used n us) ≡ 
 used_step us n v true h more = refl
 used_step us n v false h more = more h
 
-used_value : (t : List Opt) (us : List Use) (n : Text) → AllByRecursion (Fits t) us
+pub used_value : (t : List Opt) (us : List Use) (n : Text) → AllByRecursion (Fits t) us
     → has_flag n t ≡ false → is_used n us ≡ true → is_some (value_in n us) ≡ true
 used_value t [] n fit none e = absurd (true≢false (sym e))
 used_value t (alone m ∷ us) n fit none e =
@@ -113,8 +113,3 @@ pub some_read : {A : Type 0} (read : Text → Option A) (o : Option Text) (v : O
 some_read read None v f e is = absurd (true≢false (sym is))
 some_read read (Some t) None f e is = absurd (true≢false (sym (ap is_none e) ∙ f))
 some_read read (Some t) (Some x) f e is = refl
-
-pub some_mapped : {A B : Type 0} (f : A → B) (o : Option A) → is_some (option_map f o) ≡ true
-    → is_some o ≡ true
-some_mapped f None e = absurd (true≢false (sym e))
-some_mapped f (Some x) e = refl

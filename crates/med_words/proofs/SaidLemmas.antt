@@ -7,7 +7,8 @@ use Rattle.std.proofs.lemmas.Bool.{and_parts, not-true}
 use Rattle.clap.specs.Walk.{Row, first_of, one_of}
 use Rattle.med_words.specs.Grammar.{Text, Opt, Use, Row as Command, Commands, options_of, is_used, value_in}
 use Rattle.med_words.specs.Matched.{HasRows, FlagRow, has_flag, has_valued, main_rows, own_rows}
-use Rattle.med_words.specs.Said.{said_by, main_said_by}
+use Rattle.med_words.specs.Fields.{fields_of, main_fields}
+use Rattle.med_words.specs.Said.{said_by}
 use Rattle.med_words.specs.Tables.{main_options, commands}
 
 -- what holds of each table holds of that of a command word
@@ -35,7 +36,7 @@ abbrev is_never_valued : Text → Bool
 is_never_valued n = list_all (λ (c : Command). not (has_valued n c.1)) commands
 
 pub main_said : (uses : List Use) (rows : List Row) → HasRows main_options uses rows
-    → main_rows rows ≡ main_said_by uses
+    → main_rows rows ≡ main_fields uses
 main_said uses rows h =
     rw (
       h.values (codes "config-file") refl,
@@ -56,7 +57,7 @@ module _ (w : Text) (t : List Opt) (is : options_of commands w ≡ Some t) (uses
       (not-true (has_valued n t) (of_each (λ u. not (has_valued n u)) commands e w t is))
 
   pub own_said : own_rows rows (is_used (codes "all-nodes") uses) (is_used (codes "show-all") uses)
-      ≡ said_by uses
+      ≡ fields_of (said_by uses)
   own_said =
       rw (
         value (codes "backup-name") refl,

@@ -1,10 +1,13 @@
 pub mod Grammar
 pub mod WellFormed
+pub mod Said
+pub mod Fields
+pub mod Values
+pub mod Settings
 pub mod Tables
 pub mod Built
-pub mod Said
-pub mod Values
 pub mod Request
 pub mod Matched
 pub mod Views
 pub mod Blames
+pub mod Reads

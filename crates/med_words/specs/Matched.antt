@@ -7,7 +7,7 @@ use Rattle.clap.specs.Simple.{subcommand_rows_of}
 use Rattle.clap.specs.Words.{found_of}
 use Rattle.clap.specs.declared.parser.matches.ArgMatches.{ArgMatches}
 use Rattle.med_words.specs.Grammar.{Text, Opt, Use, Commands, valued, flag, is_used, value_in, IsLine}
-use Rattle.med_words.specs.Said.{Said, MainSaid}
+use Rattle.med_words.specs.Fields.{Fields, MainFields}
 
 -- whether the option is a flag of this name, or one with a value
 abbrev pub is_flag : Text → Opt → Bool
@@ -48,7 +48,7 @@ pub record IsMatched (top : List Opt) (commands : Commands) (words : List Text) 
   pub own_rows : HasRows line.options own rows
 
 -- what the rows of the main options say
-abbrev pub main_rows : List Row → MainSaid
+abbrev pub main_rows : List Row → MainFields
 main_rows rows = record {
   config_file = first_of (codes "config-file") rows;
   bucket = first_of (codes "bucket-name") rows;
@@ -57,7 +57,7 @@ main_rows rows = record {
 }
 
 -- what the rows of a command's options say, beside these flags
-abbrev pub own_rows : List Row → Bool → Bool → Said
+abbrev pub own_rows : List Row → Bool → Bool → Fields
 own_rows rows all_nodes show_all = record {
   name = first_of (codes "backup-name") rows;
   mode = first_of (codes "mode") rows;

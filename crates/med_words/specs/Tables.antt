@@ -1,46 +1,86 @@
--- The tables of the command line: the main options, and a row for each command word.
-use Rattle.std.specs.Prelude.{ℕ, true, false, List, [], ◌∷◌, codes}
-use Rattle.med_words.specs.Grammar.{Opt, valued, flag, Commands}
+-- The tables of the command line: the main options, and a row for each command.
+use Rattle.std.specs.Prelude.{ℕ, Bool, false, List, [], ◌∷◌, Option, Some, map, codes, option_and_then}
+use Rattle.std.specs.List.{find}
+use Rattle.std.specs.Str.{bytes_eq}
+use Rattle.med_outside.specs.declared.mode.Mode.{Mode}
+use Rattle.med_words.specs.Grammar.{Text, Opt, valued, Commands}
+use Rattle.med_words.specs.Said.{Said}
+use Rattle.med_words.specs.Settings.{Setting, Given, option_of, value_of, backup_name, mode, workers, rounds, destination, host_list, jobs_file, all_nodes, show_all}
 
--- an option with a value, which has to stand
-abbrev pub required : List ℕ → Opt
-required n = valued n true
-
--- an option with a value, which may be left out
-abbrev pub optional : List ℕ → Opt
-optional n = valued n false
-
--- the options before the command word
+-- the options before the command word, each with a value and none required
 abbrev pub main_options : List Opt
 main_options =
-    optional (codes "config-file") ∷ optional (codes "bucket-name") ∷ optional (codes "prefix")
-    ∷ optional (codes "fqdn") ∷ []
+    valued (codes "config-file") false ∷ valued (codes "bucket-name") false
+    ∷ valued (codes "prefix") false ∷ valued (codes "fqdn") false ∷ []
 
--- the name of a backup
-abbrev pub backup_name : Opt
-backup_name = required (codes "backup-name")
+-- what is asked for, by a constructor for each command
+pub data Action : Type 0 where
+  backup : Text → Mode → Action
+  backup_cluster : Text → Mode → ℕ → Action
+  build_index : Action
+  delete_backup : Text → Bool → Action
+  download : Text → Text → Action
+  fetch_tokenmap : Text → Action
+  last_complete : Action
+  list_backups : Bool → Action
+  purge : Action
+  purge_decommissioned : Action
+  report_last : Action
+  restore_cluster : Text → Text → Action
+  restore_node : Text → Action
+  status : Text → Action
+  verify : Text → Action
+  jobs : Text → Action
+  rehearse : ℕ → Action
+
+-- what the values of these options make
+abbrev pub Makes : List Setting → Type 0
+Makes [] = Action
+Makes (s ∷ settings) = Given s → Makes settings
+
+-- a command: its word, its options, and what their values make
+pub record CommandRow : Type 0 where
+  pub word : Text
+  pub settings : List Setting
+  pub make : Makes settings
+
+-- the row of these three
+abbrev pub row : Text → (settings : List Setting) → Makes settings → CommandRow
+row word settings make = record { word = word; settings = settings; make = make }
+
+-- the commands
+abbrev pub rows : List CommandRow
+rows =
+    row (codes "backup") (backup_name ∷ mode ∷ []) backup
+    ∷ row (codes "backup-cluster") (backup_name ∷ mode ∷ workers ∷ []) backup_cluster
+    ∷ row (codes "build-index") [] build_index
+    ∷ row (codes "delete-backup") (backup_name ∷ all_nodes ∷ []) delete_backup
+    ∷ row (codes "download") (backup_name ∷ destination ∷ []) download
+    ∷ row (codes "fetch-tokenmap") (backup_name ∷ []) fetch_tokenmap
+    ∷ row (codes "get-last-complete-cluster-backup") [] last_complete
+    ∷ row (codes "list-backups") (show_all ∷ []) list_backups
+    ∷ row (codes "purge") [] purge
+    ∷ row (codes "purge-decommissioned") [] purge_decommissioned
+    ∷ row (codes "report-last-backup") [] report_last
+    ∷ row (codes "restore-cluster") (backup_name ∷ host_list ∷ []) restore_cluster
+    ∷ row (codes "restore-node") (backup_name ∷ []) restore_node
+    ∷ row (codes "status") (backup_name ∷ []) status
+    ∷ row (codes "verify") (backup_name ∷ []) verify
+    ∷ row (codes "jobs") (jobs_file ∷ []) jobs
+    ∷ row (codes "rehearse") (rounds ∷ []) rehearse
+    ∷ []
 
 -- each command word with its options
 abbrev pub commands : Commands
-commands =
-    (codes "backup", backup_name ∷ optional (codes "mode") ∷ [])
-    ∷ (
-      codes "backup-cluster",
-      backup_name ∷ optional (codes "mode") ∷ optional (codes "workers") ∷ [],
-    )
-    ∷ (codes "build-index", [])
-    ∷ (codes "delete-backup", backup_name ∷ flag (codes "all-nodes") ∷ [])
-    ∷ (codes "download", backup_name ∷ required (codes "download-destination") ∷ [])
-    ∷ (codes "fetch-tokenmap", backup_name ∷ [])
-    ∷ (codes "get-last-complete-cluster-backup", [])
-    ∷ (codes "list-backups", flag (codes "show-all") ∷ [])
-    ∷ (codes "purge", [])
-    ∷ (codes "purge-decommissioned", [])
-    ∷ (codes "report-last-backup", [])
-    ∷ (codes "restore-cluster", backup_name ∷ required (codes "host-list") ∷ [])
-    ∷ (codes "restore-node", backup_name ∷ [])
-    ∷ (codes "status", backup_name ∷ [])
-    ∷ (codes "verify", backup_name ∷ [])
-    ∷ (codes "jobs", required (codes "jobs-file") ∷ [])
-    ∷ (codes "rehearse", required (codes "rounds") ∷ [])
-    ∷ []
+commands = map (λ c. (c.word, map option_of c.settings)) rows
+
+-- what is made of the values of these options, or none where one has none
+abbrev pub made_of : Said → (settings : List Setting) → Makes settings → Option Action
+made_of said [] action = Some action
+made_of said (s ∷ settings) make =
+    option_and_then (λ v. made_of said settings (make v)) (value_of s said)
+
+-- what a command word and its options ask for
+abbrev pub action_for : Text → Said → Option Action
+action_for word said =
+    option_and_then (λ c. made_of said c.settings c.make) (find (λ c. bytes_eq c.word word) rows)

@@ -49,10 +49,10 @@ fails read (Some text) = is_none (read text)
 -- the options whose values are checked, in the order of the checks, and whether each fails
 abbrev pub checks : Said → List (Text × Bool)
 checks said =
-    (codes "--backup-name", fails read_name said.name)
-    ∷ (codes "--mode", fails read_mode said.mode)
-    ∷ (codes "--workers", fails read_workers said.workers)
-    ∷ (codes "--rounds", fails read_rounds said.rounds)
+    (codes "--backup-name", fails read_name (said.value (codes "backup-name")))
+    ∷ (codes "--mode", fails read_mode (said.value (codes "mode")))
+    ∷ (codes "--workers", fails read_workers (said.value (codes "workers")))
+    ∷ (codes "--rounds", fails read_rounds (said.value (codes "rounds")))
     ∷ []
 
 -- the first option that has a value which it doesn't take, with its dashes

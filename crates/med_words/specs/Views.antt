@@ -1,12 +1,13 @@
 -- The tables of the code, as plain data.
 use Rattle.std.specs.Prelude.{◌≡◌, true, false, List, map, option_map, string_bytes}
 use Rattle.med_words.specs.Grammar.{Text, Opt, valued, flag, Use, IsLine}
-use Rattle.med_words.specs.Request.{Action, Asked, backup, backup_cluster, build_index, delete_backup, download, fetch_tokenmap, last_complete, list_backups, purge, purge_decommissioned, report_last, restore_cluster, restore_node, status, verify, jobs, rehearse}
+use Rattle.med_words.specs.Request.{Asked}
+use Rattle.med_words.specs.Tables.{main_options, commands, Action, backup, backup_cluster, build_index, delete_backup, download, fetch_tokenmap, last_complete, list_backups, purge, purge_decommissioned, report_last, restore_cluster, restore_node, status, verify, jobs, rehearse}
 use Rattle.med_words.specs.declared.request.Command.{Command}
 use Rattle.med_words.specs.declared.request.Command.TheVariants as command
 use Rattle.med_words.specs.declared.request.Request.{Request}
-use Rattle.med_words.specs.Said.{Said, said_by, MainSaid, main_said_by}
-use Rattle.med_words.specs.Tables.{main_options, commands}
+use Rattle.med_words.specs.Said.{Said, said_by}
+use Rattle.med_words.specs.Fields.{Fields, fields_of, said_in, MainFields, main_fields}
 use Rattle.med_words.specs.declared.line.Main.{Main}
 use Rattle.med_words.specs.declared.line.Own.{Own}
 use Rattle.med_words.specs.declared.line.Line.{Line}
@@ -25,7 +26,7 @@ abbrev pub row_view : Row → Text × List Opt
 row_view r = (r.word.now, map opt_view r.options.now)
 
 -- what the main options of a line say
-abbrev pub main_view : Main → MainSaid
+abbrev pub main_view : Main → MainFields
 main_view m = record {
   config_file = option_map (λ s. s.now) m.config_file;
   bucket = option_map (λ s. s.now) m.bucket;
@@ -34,7 +35,7 @@ main_view m = record {
 }
 
 -- what the options of the command word of a line say
-abbrev pub own_view : Own → Said
+abbrev pub own_view : Own → Fields
 own_view o = record {
   name = option_map (λ s. s.now) o.name;
   mode = option_map (λ s. s.now) o.mode;
@@ -47,15 +48,19 @@ own_view o = record {
   show_all = o.show_all;
 }
 
+-- the same by the names of the options
+abbrev pub said_view : Own → Said
+said_view o = said_in (own_view o)
+
 -- the words are this line
 pub record HasLine (words : List Text) (l : Line) : Type 0 where
   pub main : List Use
   pub own : List Use
   pub line : IsLine main_options commands words main l.word.now own
-  pub main_is : main_view l.main ≡ main_said_by main
-  pub own_is : own_view l.own ≡ said_by own
+  pub main_is : main_view l.main ≡ main_fields main
+  pub own_is : own_view l.own ≡ fields_of (said_by own)
 
--- the words of a command that was read
+-- what a command of the code asks for
 abbrev pub action_of : Command → Action
 action_of (command.Backup name mode) = backup name mode
 action_of (command.BackupCluster name mode workers) = backup_cluster name mode workers
@@ -82,5 +87,6 @@ asked_of r = record {
   bucket = option_map string_bytes r.over.bucket;
   prefix = option_map string_bytes r.over.prefix;
   fqdn = option_map string_bytes r.over.fqdn;
+  word = r.word.now;
   action = action_of r.command;
 }

@@ -1,109 +1,106 @@
 // From a line and the values of its options to a command.
-ghost use Rattle.std.specs.Prelude.{◌≡◌, Some, None, true, false, IfOk, option_map, is_some, string_bytes, List};
-ghost use Rattle.med_words.specs.Blames.{Reads};
+ghost use Rattle.std.specs.Prelude.{◌≡◌, Some, None, IfOk, option_map, List};
+ghost use Rattle.med_words.specs.Reads.{Reads};
 ghost use Rattle.med_words.specs.Grammar.{Text};
-ghost use Rattle.med_words.specs.Request.{IsAction, HasName, HasMode, HasWorkers};
-ghost use Rattle.med_words.specs.Views.{own_view, action_of, HasLine};
-ghost use Rattle.med_words.specs.Values.{read_rounds, given_or, fails};
+ghost use Rattle.med_words.specs.Settings.{value_of};
+ghost use Rattle.med_words.specs.Settings as setting;
+ghost use Rattle.med_words.specs.Tables.{action_for};
+ghost use Rattle.med_words.specs.Views.{own_view, said_view, action_of, HasLine};
 
 use crate::line::Line;
+use crate::read::copied;
 use crate::request::Command;
 use crate::values::Values;
 use med_base::{BackupName, NoMemory};
 use med_outside::Mode;
 use std::alloc::Global;
 
-/// A copy of a value that stands.
-fn text_of(alloc: Global, text: Option<&str>) -> Result<String, NoMemory>
-    requires { is_some text ≡ true }
-    ensures ok { IfOk result (λ s. option_map (λ t. t.now) text.entry ≡ Some (string_bytes s)) }
-{
-    Ok(String::from_str(alloc, text.unwrap())?)
-}
-
-/// The command of a line that names a backup.
+/// The command of a line that names a backup, or none where an option that it needs has no value.
+#[tactic(auto, using(crate::proofs::ActionFor::at_word))]
 fn with_name(
     alloc: Global,
     line: &Line<'_>,
     name: BackupName,
     mode: Mode,
     workers: u32,
-) -> Result<Command, NoMemory>
+) -> Result<Option<Command>, NoMemory>
     requires line { (words : List Text) × HasLine words line.now }
-    requires name { HasName (own_view line.now.own) name }
-    requires mode { HasMode (own_view line.now.own) mode }
-    requires workers { HasWorkers (own_view line.now.own) workers }
-    ensures { IfOk result
-        (λ c. IsAction line.now.word.now (own_view line.now.own) (action_of c)) }
+    requires name { value_of setting.backup_name (said_view line.now.own) ≡ Some name }
+    requires mode { value_of setting.mode (said_view line.now.own) ≡ Some mode }
+    requires workers { value_of setting.workers (said_view line.now.own) ≡ Some workers }
+    ensures { IfOk result (λ c. action_for line.now.word.now (said_view line.now.own)
+        ≡ option_map action_of c) }
 {
-    match line.word {
-        "backup" => Ok(Command::Backup { name, mode }),
-        "backup-cluster" => Ok(Command::BackupCluster {
+    let own = line.own;
+    Ok(match line.word {
+        "backup" => Some(Command::Backup { name, mode }),
+        "backup-cluster" => Some(Command::BackupCluster {
             name,
             mode,
             workers,
         }),
         "delete-backup" => {
-            let all_nodes = line.own.all_nodes;
-            Ok(Command::DeleteBackup { name, all_nodes })
+            let all_nodes = own.all_nodes;
+            Some(Command::DeleteBackup { name, all_nodes })
         }
-        "download" => {
-            let destination = text_of(alloc, line.own.destination)?;
-            Ok(Command::Download { name, destination })
-        }
-        "fetch-tokenmap" => Ok(Command::FetchTokenmap { name }),
-        "restore-cluster" => {
-            let host_list = text_of(alloc, line.own.host_list)?;
-            Ok(Command::RestoreCluster { name, host_list })
-        }
-        "restore-node" => Ok(Command::RestoreNode { name }),
-        "status" => Ok(Command::Status { name }),
-        "verify" => Ok(Command::Verify { name }),
+        "download" => copied(alloc, own.destination)?.map(|destination| Command::Download {
+            name,
+            destination,
+        }),
+        "fetch-tokenmap" => Some(Command::FetchTokenmap { name }),
+        "restore-cluster" => copied(alloc, own.host_list)?.map(|host_list| Command::RestoreCluster {
+            name,
+            host_list,
+        }),
+        "restore-node" => Some(Command::RestoreNode { name }),
+        "status" => Some(Command::Status { name }),
+        "verify" => Some(Command::Verify { name }),
         _ => unreachable!(),
-    }
+    })
 }
 
-/// The command of a line that names no backup.
-fn without_name(alloc: Global, line: &Line<'_>, rounds: Option<u32>) -> Result<Command, NoMemory>
+/// The command of a line that names no backup, or none where an option that it needs has no value.
+#[tactic(auto, using(crate::proofs::ActionFor::at_word))]
+fn without_name(
+    alloc: Global,
+    line: &Line<'_>,
+    rounds: Option<u32>,
+) -> Result<Option<Command>, NoMemory>
     requires line { (words : List Text) × HasLine words line.now }
     requires name { (own_view line.now.own).name ≡ None }
-    requires rounds { given_or None read_rounds (own_view line.now.own).rounds ≡ rounds }
-    requires fits { fails read_rounds (own_view line.now.own).rounds ≡ false }
-    ensures { IfOk result
-        (λ c. IsAction line.now.word.now (own_view line.now.own) (action_of c)) }
+    requires rounds { value_of setting.rounds (said_view line.now.own) ≡ rounds }
+    ensures { IfOk result (λ c. action_for line.now.word.now (said_view line.now.own)
+        ≡ option_map action_of c) }
 {
-    match line.word {
-        "build-index" => Ok(Command::BuildIndex),
-        "get-last-complete-cluster-backup" => Ok(Command::LastComplete),
+    Ok(match line.word {
+        "build-index" => Some(Command::BuildIndex),
+        "get-last-complete-cluster-backup" => Some(Command::LastComplete),
         "list-backups" => {
             let show_all = line.own.show_all;
-            Ok(Command::ListBackups { show_all })
+            Some(Command::ListBackups { show_all })
         }
-        "purge" => Ok(Command::Purge),
-        "purge-decommissioned" => Ok(Command::PurgeDecommissioned),
-        "report-last-backup" => Ok(Command::ReportLast),
-        "jobs" => {
-            let file = text_of(alloc, line.own.jobs_file)?;
-            Ok(Command::Jobs { file })
-        }
-        "rehearse" => {
-            let rounds = rounds.unwrap();
-            Ok(Command::Rehearse { rounds })
-        }
+        "purge" => Some(Command::Purge),
+        "purge-decommissioned" => Some(Command::PurgeDecommissioned),
+        "report-last-backup" => Some(Command::ReportLast),
+        "jobs" => copied(alloc, line.own.jobs_file)?.map(|file| Command::Jobs { file }),
+        "rehearse" => match rounds {
+            Some(rounds) => Some(Command::Rehearse { rounds }),
+            None => None,
+        },
         _ => unreachable!(),
-    }
+    })
 }
 
-/// The command of a line whose options have these values.
+/// The command of a line whose options have these values, or none where one is missing.
 pub(crate) fn command_of(
     alloc: Global,
     line: &Line<'_>,
     values: Values,
-) -> Result<Command, NoMemory>
+) -> Result<Option<Command>, NoMemory>
     requires line { (words : List Text) × HasLine words line.now }
-    requires values { Reads (own_view line.now.own) values }
-    ensures { IfOk result
-        (λ c. IsAction line.now.word.now (own_view line.now.own) (action_of c)) }
+    requires values { Reads (said_view line.now.own) values }
+    ensures { IfOk result (λ c. action_for line.now.word.now (said_view line.now.own)
+        ≡ option_map action_of c) }
 {
     let Values {
         name,

@@ -1,20 +1,22 @@
 // From words to a request.
 ghost use Rattle.std.specs.Prelude.{◌≡◌, List, IfOk, IfErr, map, string_bytes, option_map, unwrap_or, codes};
-ghost use Rattle.med_words.specs.Blames.{Reads, BlamesWords, AsksNothing};
+ghost use Rattle.med_words.specs.Blames.{BlamesWords, AsksNothing};
+ghost use Rattle.med_words.specs.Reads.{Reads};
 ghost use Rattle.med_words.specs.Grammar.{Text};
 ghost use Rattle.med_words.specs.Request.{IsRequest};
-ghost use Rattle.med_words.specs.Views.{main_view, own_view, asked_of, HasLine};
+ghost use Rattle.med_words.specs.Views.{main_view, said_view, asked_of, HasLine};
 
 use crate::command::command_of;
 use crate::line::{Line, LineError, Main, read_line};
 use crate::request::{Request, Usage, WordsError};
+use crate::table::{command_table, word_in};
 use crate::values::{Values, read_values};
 use med_base::NoMemory;
 use med_ini::Overrides;
 use std::alloc::Global;
 
 /// A copy of a value, where it is given.
-fn copied(alloc: Global, text: Option<&str>) -> Result<Option<String>, NoMemory>
+pub(crate) fn copied(alloc: Global, text: Option<&str>) -> Result<Option<String>, NoMemory>
     ensures { IfOk result (λ copy.
         option_map string_bytes copy ≡ option_map (λ s. s.now) text.entry) }
 {
@@ -55,16 +57,22 @@ fn over_of(alloc: Global, main: &Main<'_>) -> Result<Overrides, NoMemory>
 /// The request of a line whose options have these values.
 fn request_of(alloc: Global, line: &Line<'_>, values: Values) -> Result<Request, NoMemory>
     requires line { (words : List Text) × HasLine words line.now }
-    requires values { Reads (own_view line.now.own) values }
+    requires values { Reads (said_view line.now.own) values }
     ensures { IfOk result (λ r. (words : List Text) → HasLine words line.now
         → IsRequest words (asked_of r)) }
 {
     let config_file = config_file_of(alloc, line.main.config_file)?;
     let over = over_of(alloc, &line.main)?;
-    let command = command_of(alloc, line, values)?;
+    let Some(word) = word_in(command_table(), line.word) else {
+        unreachable!();
+    };
+    let Some(command) = command_of(alloc, line, values)? else {
+        unreachable!();
+    };
     Ok(Request {
         config_file,
         over,
+        word,
         command,
     })
 }

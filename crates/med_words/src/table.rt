@@ -1,5 +1,6 @@
 // The tables of the command line: the main options, and a row for each command word.
-ghost use Rattle.std.specs.Prelude.{◌≡◌, map};
+ghost use Rattle.std.specs.Prelude.{◌≡◌, map, IfSome, None};
+ghost use Rattle.med_words.specs.Grammar.{options_of};
 ghost use Rattle.med_words.specs.Views.{opt_view, row_view};
 ghost use Rattle.med_words.specs.Tables.{main_options, commands};
 
@@ -27,7 +28,7 @@ static MAIN: [Opt<'static>; 4] = [
     Opt::Optional("fqdn"),
 ];
 
-static COMMANDS: [Row<'static>; 17] = [
+static COMMANDS: &[Row<'static>] = &[
     Row {
         word: "backup",
         options: &[NAME, Opt::Optional("mode")],
@@ -109,5 +110,17 @@ pub(crate) fn main_table() -> &'static [Opt<'static>]
 pub(crate) fn command_table() -> &'static [Row<'static>]
     ensures { map row_view result.now ≡ commands }
 {
-    &COMMANDS
+    COMMANDS
+}
+
+/// The word of the row that has this word.
+pub(crate) fn word_in(rows: &'static [Row<'static>], word: &str) -> Option<&'static str>
+    ensures value { IfSome result (λ w. w.now ≡ word.now) }
+    ensures none { result ≡ None → options_of (map row_view rows.now) word.now ≡ None }
+{
+    match rows {
+        [] => None,
+        [row, ..] if row.word == word => Some(row.word),
+        [_, rest @ ..] => word_in(rest, word),
+    }
 }

@@ -2,8 +2,8 @@
 ghost use Rattle.std.specs.Prelude.{◌≡◌, Some, None, false, IfOk, IfErr, option_map, codes};
 ghost use Rattle.med_outside.specs.declared.mode.Mode.TheVariants.{Differential};
 ghost use Rattle.med_words.specs.Values.{read_mode, read_count, read_name, read_workers, read_rounds, given_or, fails};
-ghost use Rattle.med_words.specs.Views.{own_view};
-ghost use Rattle.med_words.specs.Blames.{Reads, Blames, BlamesValues};
+ghost use Rattle.med_words.specs.Views.{said_view};
+ghost use Rattle.med_words.specs.Reads.{Reads, Blames, BlamesValues};
 ghost use Rattle.med_words.specs.declared.request.WordsError.TheVariants as WordsError;
 ghost use Rattle.med_words.specs.declared.request.Usage.TheVariants as Usage;
 
@@ -108,8 +108,8 @@ fn name_of(alloc: Global, text: Option<&str>) -> Result<Option<BackupName>, Word
 
 /// The values of the options that are checked, in the order of the checks.
 pub(crate) fn read_values(alloc: Global, own: &Own<'_>) -> Result<Values, WordsError>
-    ensures ok { IfOk result (Reads (own_view own.now)) }
-    ensures err { IfErr result (BlamesValues (own_view own.now)) }
+    ensures ok { IfOk result (Reads (said_view own.now)) }
+    ensures err { IfErr result (BlamesValues (said_view own.now)) }
 {
     let name = name_of(alloc, own.name)?;
     let Some(mode) = mode_of(own.mode) else {

@@ -7,7 +7,7 @@ returns-in-Err-Line-clause-err c = c.in-Err-Line.ensures.line (ap Err c.in-Err-L
 
 pub returns-in-Err-Line-clause-refused : goal.returns-in-Err-Line-clause-refused
 returns-in-Err-Line-clause-refused c asked r =
-    c.in-Err-Line.ensures.line (ap Err c.in-Err-Line.field-0-is) r.main r.own r.word r.line
+    c.in-Err-Line.ensures.line (ap Err c.in-Err-Line.field-0-is) r.main r.own asked.word r.line
 
 pub returns-in-Err-clause-refused : goal.returns-in-Err-clause-refused
 returns-in-Err-clause-refused c =
