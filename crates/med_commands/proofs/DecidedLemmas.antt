@@ -8,7 +8,7 @@ use Rattle.med_outside.specs.World.{World}
 use Rattle.med_outside.specs.declared.mode.Mode.TheVariants.{Full, Differential}
 use Rattle.med_words.specs.Blames.{BlamesWords}
 use Rattle.med_words.specs.Request.{Asked, IsRequest}
-use Rattle.med_words.specs.Tables.{Action, backup, backup_cluster, build_index, delete_backup, download, fetch_tokenmap, last_complete, list_backups, purge, purge_decommissioned, report_last, restore_cluster, restore_node, status, verify, jobs, rehearse}
+use Rattle.med_words.specs.Tables.{Action, backup}
 use Rattle.med_words.specs.declared.request.Usage.{Usage}
 use Rattle.med_words.specs.declared.request.WordsError.TheVariants as words_error
 use Rattle.med_words.proofs.OneRequest.{one_request, asks_nothing}
@@ -93,22 +93,7 @@ no_command : (action : Action) (asked : Asked) (a b : World) → is_built action
     → Leads (action_plan action asked a b) (Err (Refused (NotBuilt asked.word)))
 no_command (backup n Full) asked a b e = absurd (cc e)
 no_command (backup n Differential) asked a b e = unbuilt_leads _ a b
-no_command (backup_cluster n mode workers) asked a b e = unbuilt_leads _ a b
-no_command build_index asked a b e = unbuilt_leads _ a b
-no_command (delete_backup n all) asked a b e = unbuilt_leads _ a b
-no_command (download n to) asked a b e = unbuilt_leads _ a b
-no_command (fetch_tokenmap n) asked a b e = unbuilt_leads _ a b
-no_command last_complete asked a b e = unbuilt_leads _ a b
-no_command (list_backups all) asked a b e = unbuilt_leads _ a b
-no_command purge asked a b e = unbuilt_leads _ a b
-no_command purge_decommissioned asked a b e = unbuilt_leads _ a b
-no_command report_last asked a b e = unbuilt_leads _ a b
-no_command (restore_cluster n hosts) asked a b e = unbuilt_leads _ a b
-no_command (restore_node n) asked a b e = unbuilt_leads _ a b
-no_command (status n) asked a b e = unbuilt_leads _ a b
-no_command (verify n) asked a b e = unbuilt_leads _ a b
-no_command (jobs file) asked a b e = unbuilt_leads _ a b
-no_command (rehearse rounds) asked a b e = unbuilt_leads _ a b
+no_command action asked a b e = unbuilt_leads _ a b
 
 words_lead : (words : List (List ℕ)) (asked : Asked) (a b : World) (told : End)
     → IsRequest words asked → Leads (plan_of asked a b) told → Leads (words_plan words a b) told
