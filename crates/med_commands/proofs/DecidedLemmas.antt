@@ -8,7 +8,7 @@ use Rattle.med_outside.specs.World.{World}
 use Rattle.med_outside.specs.declared.mode.Mode.TheVariants.{Full, Differential}
 use Rattle.med_words.specs.Blames.{BlamesWords}
 use Rattle.med_words.specs.Request.{Asked, IsRequest}
-use Rattle.med_words.specs.Tables.{Action, backup}
+use Rattle.med_words.specs.Tables.{Action, backup, word_of}
 use Rattle.med_words.specs.declared.request.Usage.{Usage}
 use Rattle.med_words.specs.declared.request.WordsError.TheVariants as words_error
 use Rattle.med_words.proofs.OneRequest.{one_request, asks_nothing}
@@ -90,7 +90,7 @@ unbuilt_leads word a b = by_answer _ _ _ (λ x h. absurd (no x h)) yes
     yes f h = let is : NotBuilt word ≡ f = cc h in ap (λ (g : Refusal). Err (Refused g)) is
 
 no_command : (action : Action) (asked : Asked) (a b : World) → is_built action ≡ false
-    → Leads (action_plan action asked a b) (Err (Refused (NotBuilt asked.word)))
+    → Leads (action_plan action asked a b) (Err (Refused (NotBuilt (word_of action))))
 no_command (backup n Full) asked a b e = absurd (cc e)
 no_command (backup n Differential) asked a b e = unbuilt_leads _ a b
 no_command action asked a b e = unbuilt_leads _ a b

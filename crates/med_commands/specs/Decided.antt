@@ -13,7 +13,7 @@ use Rattle.med_outside.specs.World.{World}
 use Rattle.med_outside.specs.declared.mode.Mode.TheVariants.{Full}
 use Rattle.med_words.specs.Blames.{BlamesWords}
 use Rattle.med_words.specs.Request.{Asked, IsRequest}
-use Rattle.med_words.specs.Tables.{Action, backup}
+use Rattle.med_words.specs.Tables.{Action, backup, word_of}
 use Rattle.med_words.specs.declared.request.Usage.{Usage}
 use Rattle.med_words.specs.declared.request.WordsError.TheVariants as words_error
 use Rattle.med_commands.specs.Loaded.{IsConfigured, IsRefused}
@@ -88,7 +88,7 @@ BadConfigIsRefused a b = (asked : Asked) (n text : List ℕ)
 -- the command isn't built, whatever the config file is
 abbrev pub UnbuiltIsRefused : World → World → Type 0
 UnbuiltIsRefused a b = (asked : Asked) → is_built asked.action ≡ false
-    → Leads (plan_of asked a b) (Err (Refused (NotBuilt asked.word)))
+    → Leads (plan_of asked a b) (Err (Refused (NotBuilt (word_of asked.action))))
 
 -- the words ask for this: the whole ends as what they ask for
 abbrev pub WordsDecide : World → World → Type 0

@@ -17,7 +17,7 @@ use Rattle.med_outside.specs.World.{FileContents, World}
 use Rattle.med_outside.specs.declared.mode.Mode.TheVariants.{Full}
 use Rattle.med_words.specs.Blames.{BlamesWords}
 use Rattle.med_words.specs.Request.{Asked, IsRequest}
-use Rattle.med_words.specs.Tables.{Action, backup}
+use Rattle.med_words.specs.Tables.{Action, backup, word_of}
 use Rattle.med_words.specs.declared.request.Usage.{Usage}
 use Rattle.med_words.specs.declared.request.WordsError.TheVariants as words_error
 use Rattle.med_commands.specs.Loaded.{IsConfigured, IsRefused}
@@ -113,7 +113,7 @@ unbuilt_plan word a b =
 
 abbrev pub action_plan : Action → Asked → (a b : World) → Plan (Type 0) (Unit {0})
 action_plan (backup n Full) asked a b = backup_plan asked n a b
-action_plan action asked a b = unbuilt_plan asked.word a b
+action_plan action asked a b = unbuilt_plan (word_of action) a b
 
 abbrev pub plan_of : Asked → (a b : World) → Plan (Type 0) (Unit {0})
 plan_of asked a b = action_plan asked.action asked a b

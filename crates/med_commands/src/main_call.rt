@@ -43,7 +43,9 @@ fn run<F: Files, S: Storage, N: Nodes, O: Sink>(
             name,
             mode: Mode::Full,
         } => back_up(alloc, request, name, files, store, nodes, out),
-        _ => Err(Fault::NotBuilt { word: request.word }),
+        command => Err(Fault::NotBuilt {
+            word: command.word(),
+        }),
     }
 }
 

@@ -73,7 +73,7 @@ fn is_asked(alloc: Global, row: &str) -> Option<bool> {
     let (word, cells) = expected.split_once('|').unwrap_or((expected, ""));
     let words = words_of(alloc, line).ok()?;
     let request = read_words(alloc, words.as_slice()).ok()?;
-    Some(request.word == word && has_fields(&request.command, cells))
+    Some(request.command.word() == word && has_fields(&request.command, cells))
 }
 
 // The first row that isn't asked so.

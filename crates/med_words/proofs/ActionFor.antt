@@ -1,17 +1,18 @@
 -- What a command word and its options ask for: each option that has to stand has a value, so
--- something is made of them.
+-- something is made of them, and what is made has that word.
 use Rattle.std.proofs.Common.{◌≡◌, ◌∙◌, Bool, cond, true, false, true≢false, not, refl, sym, ap, subst, List, [], ◌∷◌, Option, Some, None, codes, is_some, map, option_and_then}
 use Rattle.std.specs.List.{find, list_all, AllByRecursion}
 use Rattle.std.specs.Option.{option_map}
 use Rattle.std.specs.Str.{bytes_eq}
 use Rattle.std.proofs.lemmas.Bool.{not-true}
+use Rattle.med_base.proofs.Bools.{same_bytes}
 use Rattle.med_words.specs.Fields.{Fields, fields_of, said_in}
 use Rattle.med_words.specs.Grammar.{Text, Opt, Row, Use, Fits, IsMet, is_used, value_in, options_of}
 use Rattle.med_words.specs.Matched.{has_flag}
 use Rattle.med_words.specs.Reads.{Reads}
 use Rattle.med_words.specs.Said.{Said, said_by}
 use Rattle.med_words.specs.Settings.{Setting, Given, option_of, value_of, backup_name, mode, workers, rounds, destination, host_list, jobs_file, all_nodes, show_all}
-use Rattle.med_words.specs.Tables.{Action, CommandRow, Makes, commands, made_of, action_for}
+use Rattle.med_words.specs.Tables.{Action, CommandRow, Makes, commands, word_of, made_of, action_for}
 use Rattle.med_words.specs.Tables as tables
 use Rattle.med_words.specs.Values.{read_name, read_rounds}
 use Rattle.med_words.specs.Views.{said_view, HasLine}
@@ -46,6 +47,50 @@ has_row (c ∷ cs) w t e = go (bytes_eq c.word w) refl e (has_row cs w t)
     go true is found more = record { row = c; found = rw is refl; options = cc found }
     go false is found more = let h = more found in
         record { row = h.row; found = rw is h.found; options = h.options }
+
+-- ---- the word of what is asked for
+
+-- whatever the values of these options are, what they make has this word
+abbrev MakesWord : Text → (settings : List Setting) → Makes settings → Type 0
+MakesWord w [] action = word_of action ≡ w
+MakesWord w (s ∷ settings) make = (v : Given s) → MakesWord w settings (make v)
+
+-- what each row makes has the word of the row
+rows_make : AllByRecursion (λ (c : CommandRow). MakesWord c.word c.settings c.make) tables.rows
+rows_make = search
+
+made_word : (w : Text) (said : Said) (settings : List Setting) (make : Makes settings) (a : Action)
+    → MakesWord w settings make → made_of said settings make ≡ Some a → word_of a ≡ w
+made_word w said [] action a makes e = cc (makes, e)
+made_word w said (s ∷ settings) make a makes e =
+    go (value_of s said) (λ v. made_word w said settings (make v) a (makes v)) e
+  where
+    go : (o : Option (Given s))
+        → ((v : Given s) → made_of said settings (make v) ≡ Some a → word_of a ≡ w)
+        → option_and_then (λ v. made_of said settings (make v)) o ≡ Some a → word_of a ≡ w
+    go None more h = absurd (cc h)
+    go (Some v) more h = more v h
+
+found_word : (cs : List CommandRow) (w : Text) (said : Said) (a : Action)
+    → AllByRecursion (λ (c : CommandRow). MakesWord c.word c.settings c.make) cs
+    → option_and_then (λ (c : CommandRow). made_of said c.settings c.make)
+    (find (λ (c : CommandRow). bytes_eq c.word w) cs) ≡ Some a → word_of a ≡ w
+found_word [] w said a all e = absurd (cc e)
+found_word (c ∷ cs) w said a all e =
+    go (bytes_eq c.word w) refl e (found_word cs w said a all.1)
+  where
+    go : (b : Bool) → bytes_eq c.word w ≡ b
+        → option_and_then (λ (d : CommandRow). made_of said d.settings d.make)
+        (cond b (Some c) (find (λ (d : CommandRow). bytes_eq d.word w) cs)) ≡ Some a
+        → (option_and_then (λ (d : CommandRow). made_of said d.settings d.make)
+        (find (λ (d : CommandRow). bytes_eq d.word w) cs) ≡ Some a → word_of a ≡ w)
+        → word_of a ≡ w
+    go true is h more =
+        made_word c.word said c.settings c.make a all.0 h ∙ same_bytes c.word w is
+    go false is h more = more h
+
+pub of_word : (w : Text) (said : Said) (a : Action) → action_for w said ≡ Some a → word_of a ≡ w
+of_word w said a e = found_word tables.rows w said a rows_make e
 
 -- ---- the values of its options
 

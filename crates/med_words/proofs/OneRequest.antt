@@ -12,17 +12,17 @@ use Rattle.med_words.specs.Grammar.{Text, value_in}
 use Rattle.med_words.specs.Reads.{BlamesValues}
 use Rattle.med_words.specs.Request.{Asked, IsRequest}
 use Rattle.med_words.specs.Said.{Said, said_by}
-use Rattle.med_words.specs.Tables.{Action, action_for}
+use Rattle.med_words.specs.Tables.{Action, word_of, action_for}
 use Rattle.med_words.specs.Values.{first_bad}
 use Rattle.med_words.proofs.OneLine.{one_line}
 
-same_asked : (f g : Text) (b c p q n m : Option Text) (v w : Text) (x y : Action) → f ≡ g → b ≡ c
-    → p ≡ q → n ≡ m → v ≡ w → x ≡ y
+same_asked : (f g : Text) (b c p q n m : Option Text) (x y : Action) → f ≡ g → b ≡ c → p ≡ q
+    → n ≡ m → x ≡ y
     → ◌≡◌ {A = Asked}
-    (record { config_file = f; bucket = b; prefix = p; fqdn = n; word = v; action = x })
-    (record { config_file = g; bucket = c; prefix = q; fqdn = m; word = w; action = y })
-same_asked f g b c p q n m v w x y file bucket prefix node word action =
-    rw (file, bucket, prefix, node, word, action) refl
+    (record { config_file = f; bucket = b; prefix = p; fqdn = n; action = x })
+    (record { config_file = g; bucket = c; prefix = q; fqdn = m; action = y })
+same_asked f g b c p q n m x y file bucket prefix node action =
+    rw (file, bucket, prefix, node, action) refl
 
 same_action : (v w : Text) (s t : Said) (x y : Action) → v ≡ w → s ≡ t
     → action_for v s ≡ Some x → action_for w t ≡ Some y → x ≡ y
@@ -33,25 +33,28 @@ same_action v w s t x y word said k l =
 pub one_request : (words : List Text) (a b : Asked) → IsRequest words a → IsRequest words b
     → a ≡ b
 one_request words a b k l =
-    let line = one_line words k.main l.main a.word b.word k.own l.own k.line l.line in
+    let line =
+    one_line words k.main l.main (word_of a.action) (word_of b.action) k.own l.own k.line l.line in
     let own : said_by k.own ≡ said_by l.own = ap said_by line.2 in
     same_asked a.config_file b.config_file a.bucket b.bucket a.prefix b.prefix a.fqdn b.fqdn
-    a.word b.word a.action b.action
+    a.action b.action
     (k.main_is.config_file
     ∙ ap (λ us. unwrap_or (value_in (codes "config-file") us) (codes "/etc/medusa/medusa.ini"))
     line.0 ∙ sym l.main_is.config_file)
     (k.main_is.bucket ∙ ap (value_in (codes "bucket-name")) line.0 ∙ sym l.main_is.bucket)
     (k.main_is.prefix ∙ ap (value_in (codes "prefix")) line.0 ∙ sym l.main_is.prefix)
-    (k.main_is.fqdn ∙ ap (value_in (codes "fqdn")) line.0 ∙ sym l.main_is.fqdn) line.1
-    (same_action a.word b.word (said_by k.own) (said_by l.own) a.action b.action line.1 own
-    k.action_is l.action_is)
+    (k.main_is.fqdn ∙ ap (value_in (codes "fqdn")) line.0 ∙ sym l.main_is.fqdn)
+    (same_action (word_of a.action) (word_of b.action) (said_by k.own) (said_by l.own) a.action
+    b.action line.1 own k.action_is l.action_is)
 
 -- words that are rightly refused ask for nothing
 pub asks_nothing : (words : List Text) (e : WordsError) → BlamesWords words e
     → AsksNothing words e
-asks_nothing words (Usage fault.Line) no_line = λ asked r. no_line r.main r.own asked.word r.line
+asks_nothing words (Usage fault.Line) no_line = λ asked r.
+    no_line r.main r.own (word_of asked.action) r.line
 asks_nothing words (Usage (Value option)) bad = λ asked r.
-    let line = one_line words bad.main r.main bad.word asked.word bad.own r.own bad.line r.line in
+    let line =
+    one_line words bad.main r.main bad.word (word_of asked.action) bad.own r.own bad.line r.line in
     let none : first_bad (said_by bad.own) ≡ None =
     ap (λ us. first_bad (said_by us)) line.2 ∙ r.taken in
     absurd (cc (sym bad.first ∙ none))

@@ -2,7 +2,7 @@
 use Rattle.std.specs.Prelude.{◌≡◌, List, Option, Some, None, codes, unwrap_or}
 use Rattle.med_words.specs.Grammar.{Text, Use, value_in, IsLine}
 use Rattle.med_words.specs.Said.{said_by}
-use Rattle.med_words.specs.Tables.{main_options, commands, Action, action_for}
+use Rattle.med_words.specs.Tables.{main_options, commands, Action, word_of, action_for}
 use Rattle.med_words.specs.Values.{first_bad}
 
 -- what the whole line asks for
@@ -11,7 +11,6 @@ pub record Asked : Type 0 where
   pub bucket : Option Text
   pub prefix : Option Text
   pub fqdn : Option Text
-  pub word : Text
   pub action : Action
 
 -- what the uses of main options ask for
@@ -26,10 +25,10 @@ pub record IsMain (main : List Use) (asked : Asked) : Type 0 where
 pub record IsRequest (words : List Text) (asked : Asked) : Type 0 where
   pub main : List Use
   pub own : List Use
-  pub line : IsLine main_options commands words main asked.word own
+  pub line : IsLine main_options commands words main (word_of asked.action) own
   pub taken : first_bad (said_by own) ≡ None
   pub main_is : IsMain main asked
-  pub action_is : action_for asked.word (said_by own) ≡ Some asked.action
+  pub action_is : action_for (word_of asked.action) (said_by own) ≡ Some asked.action
 
 -- words ask for one thing at most
 abbrev pub AsksOnce : Type 0

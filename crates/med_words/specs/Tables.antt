@@ -33,6 +33,26 @@ pub data Action : Type 0 where
   jobs : Text → Action
   rehearse : ℕ → Action
 
+-- the word of the command that is asked for
+abbrev pub word_of : Action → Text
+word_of (backup _ _) = codes "backup"
+word_of (backup_cluster _ _ _) = codes "backup-cluster"
+word_of build_index = codes "build-index"
+word_of (delete_backup _ _) = codes "delete-backup"
+word_of (download _ _) = codes "download"
+word_of (fetch_tokenmap _) = codes "fetch-tokenmap"
+word_of last_complete = codes "get-last-complete-cluster-backup"
+word_of (list_backups _) = codes "list-backups"
+word_of purge = codes "purge"
+word_of purge_decommissioned = codes "purge-decommissioned"
+word_of report_last = codes "report-last-backup"
+word_of (restore_cluster _ _) = codes "restore-cluster"
+word_of (restore_node _) = codes "restore-node"
+word_of (status _) = codes "status"
+word_of (verify _) = codes "verify"
+word_of (jobs _) = codes "jobs"
+word_of (rehearse _) = codes "rehearse"
+
 -- what the values of these options make
 abbrev pub Makes : List Setting → Type 0
 Makes [] = Action

@@ -87,6 +87,5 @@ asked_of r = record {
   bucket = option_map string_bytes r.over.bucket;
   prefix = option_map string_bytes r.over.prefix;
   fqdn = option_map string_bytes r.over.fqdn;
-  word = r.word.now;
   action = action_of r.command;
 }

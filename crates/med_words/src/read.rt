@@ -9,7 +9,6 @@ ghost use Rattle.med_words.specs.Views.{main_view, said_view, asked_of, HasLine}
 use crate::command::command_of;
 use crate::line::{Line, LineError, Main, read_line};
 use crate::request::{Request, Usage, WordsError};
-use crate::table::{command_table, word_in};
 use crate::values::{Values, read_values};
 use med_base::NoMemory;
 use med_ini::Overrides;
@@ -63,16 +62,12 @@ fn request_of(alloc: Global, line: &Line<'_>, values: Values) -> Result<Request,
 {
     let config_file = config_file_of(alloc, line.main.config_file)?;
     let over = over_of(alloc, &line.main)?;
-    let Some(word) = word_in(command_table(), line.word) else {
-        unreachable!();
-    };
     let Some(command) = command_of(alloc, line, values)? else {
         unreachable!();
     };
     Ok(Request {
         config_file,
         over,
-        word,
         command,
     })
 }

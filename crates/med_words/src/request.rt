@@ -1,5 +1,7 @@
 // What the words ask for.
 ghost use Rattle.std.specs.Prelude.{◌≡◌};
+ghost use Rattle.med_words.specs.Tables.{word_of};
+ghost use Rattle.med_words.specs.Views.{action_of};
 ghost use Rattle.med_words.specs.declared.request.WordsError.TheVariants.{Memory};
 
 use med_base::{BackupName, NoMemory};
@@ -32,13 +34,12 @@ impl From<NoMemory> for WordsError {
     }
 }
 
-/// What the words ask for: which file of options is read, what stands in for its options, the
-/// command word, as `purge`, and what is done.
+/// What the words ask for: which file of options is read, what stands in for its options, and
+/// what is done.
 #[derive(Drop)]
 pub struct Request {
     pub config_file: String,
     pub over: Overrides,
-    pub word: &'static str,
     pub command: Command,
 }
 
@@ -92,4 +93,31 @@ pub enum Command {
     Rehearse {
         rounds: u32,
     },
+}
+
+impl Command {
+    /// The command word, as `purge`.
+    pub fn word(&self) -> &'static str
+        ensures value { result.now ≡ word_of (action_of self.now) }
+    {
+        match self {
+            Command::Backup { .. } => "backup",
+            Command::BackupCluster { .. } => "backup-cluster",
+            Command::BuildIndex => "build-index",
+            Command::DeleteBackup { .. } => "delete-backup",
+            Command::Download { .. } => "download",
+            Command::FetchTokenmap { .. } => "fetch-tokenmap",
+            Command::LastComplete => "get-last-complete-cluster-backup",
+            Command::ListBackups { .. } => "list-backups",
+            Command::Purge => "purge",
+            Command::PurgeDecommissioned => "purge-decommissioned",
+            Command::ReportLast => "report-last-backup",
+            Command::RestoreCluster { .. } => "restore-cluster",
+            Command::RestoreNode { .. } => "restore-node",
+            Command::Status { .. } => "status",
+            Command::Verify { .. } => "verify",
+            Command::Jobs { .. } => "jobs",
+            Command::Rehearse { .. } => "rehearse",
+        }
+    }
 }

@@ -1,6 +1,5 @@
 // The tables of the command line: the main options, and a row for each command word.
-ghost use Rattle.std.specs.Prelude.{◌≡◌, map, IfSome, None};
-ghost use Rattle.med_words.specs.Grammar.{options_of};
+ghost use Rattle.std.specs.Prelude.{◌≡◌, map};
 ghost use Rattle.med_words.specs.Views.{opt_view, row_view};
 ghost use Rattle.med_words.specs.Tables.{main_options, commands};
 
@@ -111,16 +110,4 @@ pub(crate) fn command_table() -> &'static [Row<'static>]
     ensures { map row_view result.now ≡ commands }
 {
     COMMANDS
-}
-
-/// The word of the row that has this word.
-pub(crate) fn word_in(rows: &'static [Row<'static>], word: &str) -> Option<&'static str>
-    ensures value { IfSome result (λ w. w.now ≡ word.now) }
-    ensures none { result ≡ None → options_of (map row_view rows.now) word.now ≡ None }
-{
-    match rows {
-        [] => None,
-        [row, ..] if row.word == word => Some(row.word),
-        [_, rest @ ..] => word_in(rest, word),
-    }
 }

@@ -1,4 +1,5 @@
 use Rattle.std.proofs.Common.{ap, Err}
+use Rattle.med_words.specs.Tables.{word_of}
 use Rattle.med_words.proofs.OneRequest.{asks_nothing, blames_words}
 use Rattle.med_words.proofs.read.read_words.Goals as goal
 
@@ -7,7 +8,8 @@ returns-in-Err-Line-clause-err c = c.in-Err-Line.ensures.line (ap Err c.in-Err-L
 
 pub returns-in-Err-Line-clause-refused : goal.returns-in-Err-Line-clause-refused
 returns-in-Err-Line-clause-refused c asked r =
-    c.in-Err-Line.ensures.line (ap Err c.in-Err-Line.field-0-is) r.main r.own asked.word r.line
+    c.in-Err-Line.ensures.line (ap Err c.in-Err-Line.field-0-is) r.main r.own
+    (word_of asked.action) r.line
 
 pub returns-in-Err-clause-refused : goal.returns-in-Err-clause-refused
 returns-in-Err-clause-refused c =
