@@ -1,11 +1,11 @@
 -- What is known of a call whose refusal was changed by `map_err`.
-use Rattle.std.proofs.Common.{◌≡◌, inl, inr, ℕ, List, true, false, is_ok, Result, Ok, Err, IfOk, OnOk, OnErr, MatchResult, ◌≤◌, arith, refl, sym, subst}
+use Rattle.std.proofs.Common.{◌≡◌, inl, inr, ℕ, List, [], true, false, is_ok, Result, Ok, Err, IfOk, OnOk, OnErr, MatchResult, ◌≤◌, arith, refl, sym, subst}
 use Rattle.med_outside.specs.declared.denied.Denied.{Denied}
 use Rattle.med_outside.specs.declared.denied.Denied.TheVariants.{Failed, Memory}
 use Rattle.med_outside.specs.Causes.{RoseOrFull}
 use Rattle.med_outside.specs.Counts.{SnapshotCounts, Tagged, after_open, with_opened}
 use Rattle.med_outside.specs.Ends.{Refusal, StopsAt}
-use Rattle.med_outside.specs.State.{State, OnlyReads, History}
+use Rattle.med_outside.specs.State.{State, ChangesOnce, History}
 use Rattle.med_outside.specs.Storage.{MayPut}
 use Rattle.med_outside.specs.World.{rose_of_node}
 use Rattle.med_backup.specs.Errors.{fault_of, stop_of_fault}
@@ -45,7 +45,7 @@ some_value P (Err y) e h = absurd (cc e)
 pub may_put : (path bytes : List ℕ) (old new : State) (stood_before stood_after : History)
     (r : Result ℕ Denied) → false ≡ is_ok r
     → (r ≡ Err Failed → MayPut path bytes old new stood_before stood_after)
-    → (r ≡ Err Memory → OnlyReads old new stood_before stood_after)
+    → (r ≡ Err Memory → ChangesOnce [] old new stood_before stood_after)
     → MayPut path bytes old new stood_before stood_after
 may_put path bytes old new stood_before stood_after (Ok x) e failed memory = absurd (cc e)
 may_put path bytes old new stood_before stood_after (Err Failed) e failed memory = failed refl

@@ -8,4 +8,6 @@ pub mod LookSteps
 pub mod Made
 pub mod NodeSteps
 pub mod Placed
+pub mod Sending
 pub mod Stands
+pub mod Uploaded

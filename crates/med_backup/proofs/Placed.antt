@@ -1,18 +1,17 @@
 -- Files that are put one after another.
-use Rattle.std.proofs.Common.{◌≡◌, inl, inr, ◌<◌, ℕ, List, [], ◌∷◌, ◌++◌, length, get_or, Option, Some, None, IfSome, refl, sym, ap, ◌∙◌, append_assoc, append-nil}
+use Rattle.std.proofs.Common.{◌≡◌, inl, inr, ◌<◌, ℕ, List, [], ◌∷◌, ◌++◌, length, get_or, Option, Some, None, IfSome, refl, sym, ap, subst, ◌∙◌, append_assoc, append-nil}
 use Rattle.std.specs.List.{AllByRecursion}
 use Rattle.std.specs.FinMap.{get}
 use Rattle.med_base.specs.declared.key.FileKey.{FileKey}
 use Rattle.med_base.specs.declared.fingerprint.Fingerprint.{Fingerprint}
-use Rattle.med_base.specs.Fingerprint.{fingerprint_of}
 use Rattle.med_base.specs.Layout.{own_path}
 use Rattle.med_manifest.specs.declared.manifest.FileRecord.{FileRecord}
 use Rattle.med_outside.specs.Effects.{Effect, Stores}
 use Rattle.med_outside.specs.Snapshot.{Snapshot, HasKey}
 use Rattle.med_outside.specs.State.{State, ChangesWithin, History}
-use Rattle.med_outside.specs.Storage.{MayPut}
 use Rattle.med_outside.proofs.Passing.{moves_on}
-use Rattle.med_backup.specs.Copies.{Copy, key_of, put_of, record_of, AreOf, IsMadeBy, ArePut, AreFirstPut}
+use Rattle.med_backup.specs.Copies.{Copy, key_of, put_of, record_of, AreOf, IsMadeBy, OrNothing, ArePut, AreFirstPut}
+use Rattle.med_backup.specs.Sent.{IsFilePut, IsSomeFilePut}
 use Rattle.std.proofs.lemmas.List.{map-append}
 use Rattle.med_base.proofs.Lists.{all_append, all_at}
 
@@ -47,17 +46,19 @@ module _ (before f n : List ℕ) (held : Option Snapshot) where
     xs_are = refl;
   }
 
-  one_put : (key k : FileKey) (path bytes : List ℕ) (print : Fingerprint) (at : ℕ)
-      → k ≡ key → path ≡ own_path before f n key → print ≡ fingerprint_of bytes
-      → IfSome held (λ s. get s.files key ≡ Some bytes)
-      → ArePut before f n held (key ∷ []) (record { key = k; path = path; fingerprint = print } ∷ [])
-      (Stores path bytes at ∷ [])
-  one_put key k path bytes print at key_is path_is print_is of = record {
-    copies = record { key = key; bytes = bytes; second = at } ∷ [];
+  one_put : (key k : FileKey) (path : List ℕ) (print : Fingerprint) (xs : List Effect)
+      → k ≡ key → path ≡ own_path before f n key → IsFilePut held key path print xs
+      → ArePut before f n held (key ∷ []) (record { key = k; path = path; fingerprint = print } ∷
+      [])
+      xs
+  one_put key k path print xs key_is path_is file = record {
+    copies = record { key = key; bytes = file.bytes; second = file.put.0 } ∷ [];
     keys_are = refl;
-    bytes_are = one_of held (record { key = key; bytes = bytes; second = at }) of;
-    files_are = λ i. record { key = key_is i; path = path_is i; fingerprint = print_is i } ∷ [];
-    xs_are = λ i. Stores (path_is i) bytes at ∷ [];
+    bytes_are = one_of held (record { key = key; bytes = file.bytes; second = file.put.0 })
+        file.file_is;
+    files_are =
+        λ i. record { key = key_is i; path = path_is i; fingerprint = file.print_is i } ∷ [];
+    xs_are = file.put.1 ∙ (λ i. Stores (path_is i) file.bytes file.put.0 ∷ []);
   }
 
   -- these files, and then those
@@ -82,38 +83,41 @@ module _ (before f n : List ℕ) (held : Option Snapshot) where
       ([], ([], keys, [], refl, none_put), moves)
 
   -- one file was put and recorded
-  pub one_placed : (key k : FileKey) (path bytes : List ℕ) (print : Fingerprint) (at : ℕ)
-      (old new : State) (stood_before stood_after : History)
-      → k ≡ key → path ≡ own_path before f n key → print ≡ fingerprint_of bytes
-      → IfSome held (λ s. get s.files key ≡ Some bytes)
-      → ChangesWithin (Stores path bytes at ∷ []) old new stood_before stood_after
+  pub one_placed : (key k : FileKey) (path : List ℕ) (print : Fingerprint) (old new : State)
+      (stood_before stood_after : History) → k ≡ key → path ≡ own_path before f n key
+      → IsMadeBy old new stood_before stood_after (IsFilePut held key path print)
       → IsMadeBy old new stood_before stood_after
-      (ArePut before f n held (key ∷ []) (record { key = k; path = path; fingerprint = print } ∷ []))
-  one_placed key k path bytes print at old new stood_before stood_after key_is path_is print_is of
-      moves = (
-        Stores path bytes at ∷ [],
-        one_put key k path bytes print at key_is path_is print_is of,
-        moves,
-      )
+      (ArePut before f n held (key ∷ []) (record { key = k; path = path; fingerprint = print } ∷
+      []))
+  one_placed key k path print old new stood_before stood_after key_is path_is (xs, file, moves) =
+      (xs, one_put key k path print xs key_is path_is file, moves)
 
   -- the put of one file answered a failure
-  pub maybe_placed : (key : FileKey) (path bytes : List ℕ) (old new : State)
-      (stood_before stood_after : History)
-      → path ≡ own_path before f n key → IfSome held (λ s. get s.files key ≡ Some bytes)
-      → MayPut path bytes old new stood_before stood_after
+  pub maybe_placed : (key : FileKey) (path : List ℕ) (old new : State)
+      (stood_before stood_after : History) → path ≡ own_path before f n key
+      → IsMadeBy old new stood_before stood_after (OrNothing (IsSomeFilePut held key path))
       → IsMadeBy old new stood_before stood_after (AreFirstPut before f n held (key ∷ []))
-  maybe_placed key path bytes old new stood_before stood_after path_is of (inl looks) =
-      none_placed (key ∷ []) old new stood_before stood_after looks.moves
-  maybe_placed key path bytes old new stood_before stood_after path_is of (inr (at, put)) = (
-    Stores path bytes at ∷ [],
+  maybe_placed key path old new stood_before stood_after path_is (xs, inl none, moves) = (
+    xs,
+    (
+      [],
+      key ∷ [],
+      [],
+      refl,
+      subst (λ (ys : List Effect). ArePut before f n held [] [] ys) (sym none) none_put,
+    ),
+    moves,
+  )
+  maybe_placed key path old new stood_before stood_after path_is (xs, inr (print, file), moves) = (
+    xs,
     (
       key ∷ [],
       [],
-      record { key = key; path = path; fingerprint = fingerprint_of bytes } ∷ [],
+      record { key = key; path = path; fingerprint = print } ∷ [],
       refl,
-      one_put key key path bytes (fingerprint_of bytes) at refl path_is refl of,
+      one_put key key path print xs refl path_is file,
     ),
-    put.moves,
+    moves,
   )
 
   pub placed_on : (ks js : List FileKey) (s0 s1 s2 : State) (p0 p1 p2 : History)

@@ -3,6 +3,7 @@ pub mod Backup
 pub mod Copies
 pub mod Errors
 pub mod Plan
+pub mod Sent
 pub mod NodeConfig
 pub mod Taken
 pub mod Walked

@@ -1,6 +1,8 @@
 // Copying what was found: the schema, the files, and the manifest that names them.
 ghost use Rattle.std.specs.Prelude.{◌≡◌, ◌≤◌, IfOk};
 ghost use Rattle.med_outside.specs.Ends.{Ends, seen};
+ghost use Rattle.med_outside.specs.Snapshot.{StaysOpen};
+ghost use Rattle.med_outside.specs.State.{IsAtRest};
 ghost use Rattle.med_outside.specs.World.{rose_of_node};
 ghost use Rattle.med_manifest.specs.Manifest.{IsManifest};
 ghost use Rattle.med_manifest.specs.Written.{manifest_text};
@@ -26,23 +28,25 @@ pub(crate) fn copy_found<S: Storage, P: Snap>(
     name: &BackupName,
     found: &Found,
 ) -> Result<Vec<FileRecord>, CopyFault>
-    requires { IsFound layout.now node.now name.now (P.held snap.old) (S.state store.old).content
-        found.now.keys.items found.now.schema.items }
+    requires rest { IsAtRest (S.state store.old) }
+    requires found { IsFound layout.now node.now name.now (P.state snap.old).held
+        (S.state store.old).content found.now.keys.items found.now.schema.items }
     ensures ok { IfOk result
-        (λ files. IsMadeBy (S.state store.old) (S.state store.new) (S.stood_since store.old)
-        (S.stood_since store.new)
-        (HasAll layout.now node.now name.now (P.held snap.old) found.now.keys.items
+        (λ files. IsMadeBy (S.state store.old) (S.state store.new) (S.stood store.old)
+        (S.stood store.new)
+        (HasAll layout.now node.now name.now (P.state snap.old).held found.now.keys.items
         found.now.schema.items files.items)) }
     ensures names { IfOk result
         (λ files. IsManifest layout.now node.now name.now (manifest_text files.items)
         files.items) }
-    ensures ends { Ends (rose_of_node (P.faults snap.old) (P.faults snap.new)
+    ensures ends { Ends (rose_of_node (P.state snap.old).faults (P.state snap.new).faults
         (S.state store.old).faults (S.state store.new).faults)
-        (IsMadeBy (S.state store.old) (S.state store.new) (S.stood_since store.old)
-        (S.stood_since store.new))
-        (copy_plan layout.now node.now name.now (P.held snap.old) found.now.keys.items
+        (IsMadeBy (S.state store.old) (S.state store.new) (S.stood store.old)
+        (S.stood store.new))
+        (copy_plan layout.now node.now name.now (P.state snap.old).held found.now.keys.items
         found.now.schema.items) (seen (λ files. files.items) stop_of_fault result) }
-    ensures snap_later { P.faults snap.old ≤ P.faults snap.new }
+    ensures same { StaysOpen (P.state snap.old) (P.state snap.new) }
+    ensures snap_later { (P.state snap.old).faults ≤ (P.state snap.new).faults }
     ensures store_later { (S.state store.old).faults ≤ (S.state store.new).faults }
 {
     let schema = found.schema.as_slice();

@@ -5,7 +5,7 @@ ghost use Rattle.std.specs.FinMap as finite;
 ghost use Rattle.med_base.specs.Names.{component_fault};
 ghost use Rattle.med_base.specs.Key.{AreRising, IsKey};
 ghost use Rattle.med_outside.specs.Causes.{RoseOrFull};
-ghost use Rattle.med_outside.specs.Snapshot.{key_of_raw};
+ghost use Rattle.med_outside.specs.Snapshot.{StaysOpen, key_of_raw};
 ghost use Rattle.med_backup.specs.Walked.{CanBeWalked, BlamesWalk, BlamesKeys, added};
 
 use med_base::{Component, FileKey, NameError, NoMemory};
@@ -94,13 +94,13 @@ pub fn walk<P: Snap>(alloc: Global, snap: &mut P) -> Result<Vec<FileKey>, WalkEr
     ensures rising { IfOk result (λ keys. AreRising keys.items) }
     ensures names { IfOk result (λ keys. AllByRecursion IsKey keys.items) }
     ensures keys { IfOk result
-        (λ keys. IfSome (P.held snap.old) (λ s. keys.items ≡ finite.keys s.files)) }
-    ensures walked { OnOk result (IfSome (P.held snap.old) CanBeWalked) }
-    ensures err { IfErr result (λ error. IfSome (P.held snap.old) (λ s. BlamesWalk s error)) }
-    ensures same { P.held snap.new ≡ P.held snap.old }
-    ensures later { P.faults snap.old ≤ P.faults snap.new }
+        (λ keys. IfSome (P.state snap.old).held (λ s. keys.items ≡ finite.keys s.files)) }
+    ensures walked { OnOk result (IfSome (P.state snap.old).held CanBeWalked) }
+    ensures err { IfErr result (λ error. IfSome (P.state snap.old).held (λ s. BlamesWalk s error)) }
+    ensures same { StaysOpen (P.state snap.old) (P.state snap.new) }
+    ensures later { (P.state snap.old).faults ≤ (P.state snap.new).faults }
     ensures snap_fault { IsErrOf result WalkError.Snap
-        → RoseOrFull (P.faults snap.old) (P.faults snap.new) }
+        → RoseOrFull (P.state snap.old).faults (P.state snap.new).faults }
 {
     let raws = match snap.keys(alloc) {
         Ok(raws) => raws,

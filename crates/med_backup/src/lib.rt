@@ -11,6 +11,7 @@ mod keys;
 mod look;
 mod node;
 mod place;
+mod upload;
 
 pub use keys::{WalkError, walk};
 pub use look::BackupError;

@@ -2,6 +2,7 @@
 ghost use Rattle.std.specs.Prelude.{◌≡◌, ◌≤◌, IfOk};
 ghost use Rattle.med_base.specs.Layout.{backup_folder};
 ghost use Rattle.med_outside.specs.Causes.{HasCause};
+ghost use Rattle.med_outside.specs.Snapshot.{StaysOpen};
 ghost use Rattle.med_outside.specs.State.{OnlyReads};
 ghost use Rattle.med_outside.specs.Ends.{Ends, seen};
 ghost use Rattle.med_outside.specs.World.{rose_of_node};
@@ -62,13 +63,13 @@ fn first_under<S: Storage>(
 ) -> Result<Option<ObjPath>, Denied>
     ensures first { IfOk result
         (IsFirstUnder (backup_folder layout.now node.now name.now) (S.state store.old).content) }
-    ensures looks { OnlyReads (S.state store.old) (S.state store.new) (S.stood_since store.old)
-        (S.stood_since store.new) }
+    ensures looks { OnlyReads (S.state store.old) (S.state store.new) (S.stood store.old)
+        (S.stood store.new) }
     ensures cause { HasCause (S.state store.old).faults (S.state store.new).faults result }
 {
     let folder = layout.backup_folder(alloc, node, name)?;
-    let entries = store.list(alloc, folder.as_str())?;
-    Ok(first_path_of(entries))
+    let page = store.list_page(alloc, folder.as_str(), None)?;
+    Ok(first_path_of(page.entries))
 }
 
 /// The keys and the schema of the snapshot, where its keys are names of files and the name of the
@@ -82,18 +83,18 @@ pub(crate) fn look<S: Storage, P: Snap>(
     name: &BackupName,
 ) -> Result<Found, BackupError>
     ensures ok { IfOk result
-        (λ found. IsFound layout.now node.now name.now (P.held snap.old) (S.state store.old).content
-        found.keys.items found.schema.items) }
-    ensures ends { Ends (rose_of_node (P.faults snap.old) (P.faults snap.new)
+        (λ found. IsFound layout.now node.now name.now (P.state snap.old).held
+        (S.state store.old).content found.keys.items found.schema.items) }
+    ensures ends { Ends (rose_of_node (P.state snap.old).faults (P.state snap.new).faults
         (S.state store.old).faults (S.state store.new).faults)
-        (IsMadeBy (S.state store.old) (S.state store.new) (S.stood_since store.old)
-        (S.stood_since store.new))
-        (look_plan layout.now node.now name.now (P.held snap.old) (S.state store.old).content)
+        (IsMadeBy (S.state store.old) (S.state store.new) (S.stood store.old)
+        (S.stood store.new))
+        (look_plan layout.now node.now name.now (P.state snap.old).held (S.state store.old).content)
         (seen (λ found. (found.keys.items, found.schema.items)) (stop_of name.now) result) }
-    ensures looks { OnlyReads (S.state store.old) (S.state store.new) (S.stood_since store.old)
-        (S.stood_since store.new) }
-    ensures same { P.held snap.new ≡ P.held snap.old }
-    ensures snap_later { P.faults snap.old ≤ P.faults snap.new }
+    ensures looks { OnlyReads (S.state store.old) (S.state store.new) (S.stood store.old)
+        (S.stood store.new) }
+    ensures same { StaysOpen (P.state snap.old) (P.state snap.new) }
+    ensures snap_later { (P.state snap.old).faults ≤ (P.state snap.new).faults }
     ensures store_later { (S.state store.old).faults ≤ (S.state store.new).faults }
 {
     let keys = match walk(alloc, snap) {

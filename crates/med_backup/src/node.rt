@@ -2,6 +2,8 @@
 ghost use Rattle.std.specs.Prelude.{◌≡◌, ◌≤◌, IfOk, OnOk};
 ghost use Rattle.med_outside.specs.Counts.{opened_once};
 ghost use Rattle.med_outside.specs.Ends.{Ends, seen};
+ghost use Rattle.med_outside.specs.Snapshot.{StaysOpen};
+ghost use Rattle.med_outside.specs.State.{IsAtRest};
 ghost use Rattle.med_outside.specs.World.{rose_of_node};
 ghost use Rattle.med_backup.specs.BackedUp.{IsBackedUpFrom};
 ghost use Rattle.med_backup.specs.Copies.{IsMadeBy};
@@ -27,16 +29,19 @@ fn backup_snapshot<S: Storage, P: Snap>(
     node: &Fqdn,
     name: &BackupName,
 ) -> Result<Vec<FileRecord>, BackupError>
+    requires { IsAtRest (S.state store.old) }
     ensures ok { IfOk result
-        (λ files. IsBackedUpFrom layout.now node.now name.now (P.held snap.old) (S.state store.old)
-        (S.state store.new) (S.stood_since store.old) (S.stood_since store.new) files.items) }
-    ensures ends { Ends (rose_of_node (P.faults snap.old) (P.faults snap.new)
+        (λ files. IsBackedUpFrom layout.now node.now name.now (P.state snap.old).held
+        (S.state store.old) (S.state store.new) (S.stood store.old) (S.stood store.new) files.items) }
+    ensures ends { Ends (rose_of_node (P.state snap.old).faults (P.state snap.new).faults
         (S.state store.old).faults (S.state store.new).faults)
-        (IsMadeBy (S.state store.old) (S.state store.new) (S.stood_since store.old)
-        (S.stood_since store.new))
-        (snapshot_plan layout.now node.now name.now (P.held snap.old) (S.state store.old).content)
+        (IsMadeBy (S.state store.old) (S.state store.new) (S.stood store.old)
+        (S.stood store.new))
+        (snapshot_plan layout.now node.now name.now (P.state snap.old).held
+        (S.state store.old).content)
         (seen (λ files. files.items) (stop_of name.now) result) }
-    ensures snap_later { P.faults snap.old ≤ P.faults snap.new }
+    ensures same { StaysOpen (P.state snap.old) (P.state snap.new) }
+    ensures snap_later { (P.state snap.old).faults ≤ (P.state snap.new).faults }
     ensures store_later { (S.state store.old).faults ≤ (S.state store.new).faults }
 {
     let found = look(alloc, store, snap, layout, node, name)?;
@@ -52,15 +57,16 @@ fn backup_opened<S: Storage, N: Nodes>(
     config: &Config,
     name: &BackupName,
 ) -> Result<Vec<FileRecord>, BackupError>
+    requires { IsAtRest (S.state store.old) }
     ensures ok { IfOk result
         (λ files. IsBackedUpFrom config.now.layout config.now.node name.now
         (snap_at (N.state nodes.old).snaps (node_config_of config.now) name.now) (S.state store.old)
-        (S.state store.new) (S.stood_since store.old) (S.stood_since store.new) files.items) }
+        (S.state store.new) (S.stood store.old) (S.stood store.new) files.items) }
     ensures ends { Ends (rose_of_node (N.state nodes.old).faults (N.state nodes.new).faults
         (S.state store.old).faults (S.state store.new).faults)
         (λ (left : Left). (left.bucket ≡ opened_at (node_config_of config.now))
-        × IsMadeBy (S.state store.old) (S.state store.new) (S.stood_since store.old)
-        (S.stood_since store.new) left.made
+        × IsMadeBy (S.state store.old) (S.state store.new) (S.stood store.old)
+        (S.stood store.new) left.made
         × ((N.state nodes.new).counts ≡ left.counts (N.state nodes.old).counts))
         (opened_plan (node_config_of config.now) name.now (N.state nodes.old).snaps
         (S.state store.old).content) (seen (λ files. files.items) (stop_of name.now) result) }
@@ -92,15 +98,16 @@ pub fn backup_node<S: Storage, N: Nodes>(
     config: &Config,
     name: &BackupName,
 ) -> Result<Vec<FileRecord>, BackupError>
+    requires { IsAtRest (S.state store.old) }
     ensures ok { IfOk result
         (λ files. IsBackedUpFrom config.now.layout config.now.node name.now
         (snap_at (N.state nodes.old).snaps (node_config_of config.now) name.now)
         (opened_at (node_config_of config.now) (S.state store.old))
-        (S.state store.new) (S.stood_since store.old) (S.stood_since store.new) files.items) }
+        (S.state store.new) (S.stood store.old) (S.stood store.new) files.items) }
     ensures ends { Ends (rose_of_node (N.state nodes.old).faults (N.state nodes.new).faults
         (S.state store.old).faults (S.state store.new).faults)
         (Leaves (N.state nodes.old) (N.state nodes.new) (S.state store.old) (S.state store.new)
-        (S.stood_since store.old) (S.stood_since store.new))
+        (S.stood store.old) (S.stood store.new))
         (node_plan (node_config_of config.now) name.now (N.state nodes.old).snaps
         (S.state store.old).content) (seen (λ files. files.items) (stop_of name.now) result) }
     ensures snapshot { OnOk result ((N.state nodes.new).counts

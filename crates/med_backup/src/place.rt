@@ -3,13 +3,15 @@ ghost use Rattle.std.specs.Prelude.{◌≡◌, ◌≤◌, ◌∷◌, [], IfOk, I
 ghost use Rattle.std.specs.List.{AllByRecursion};
 ghost use Rattle.med_base.specs.Layout.{meta_path};
 ghost use Rattle.med_outside.specs.Causes.{HasCause};
-ghost use Rattle.med_outside.specs.Snapshot.{HasKey};
+ghost use Rattle.med_outside.specs.Snapshot.{HasKey, StaysOpen};
+ghost use Rattle.med_outside.specs.State.{IsAtRest};
 ghost use Rattle.med_outside.specs.World.{rose_of_node};
 ghost use Rattle.med_backup.specs.declared.place.CopyFault.TheVariants.{Memory};
 ghost use Rattle.med_backup.specs.Copies.{IsPut, OrNothing, IsMadeBy, ArePut, AreFirstPut};
 ghost use Rattle.med_backup.specs.Errors.{fault_of, device_of};
 
-use med_base::{BackupName, FileKey, Fingerprint, Fqdn, Layout, MetaKind, NoMemory};
+use crate::upload::store_file;
+use med_base::{BackupName, FileKey, Fqdn, Layout, MetaKind, NoMemory};
 use med_manifest::FileRecord;
 use med_outside::{Denied, Snap, Storage};
 use std::alloc::{AllocFailed, Global};
@@ -70,13 +72,14 @@ pub(crate) fn put_meta<S: Storage>(
     kind: MetaKind,
     bytes: &[u8],
 ) -> Result<(), Denied>
+    requires { IsAtRest (S.state store.old) }
     ensures ok { OnOk result
-        (IsMadeBy (S.state store.old) (S.state store.new) (S.stood_since store.old)
-        (S.stood_since store.new)
+        (IsMadeBy (S.state store.old) (S.state store.new) (S.stood store.old)
+        (S.stood store.new)
         (IsPut (meta_path layout.now node.now name.now kind) bytes.now)) }
     ensures err { OnErr result
-        (IsMadeBy (S.state store.old) (S.state store.new) (S.stood_since store.old)
-        (S.stood_since store.new)
+        (IsMadeBy (S.state store.old) (S.state store.new) (S.stood store.old)
+        (S.stood store.new)
         (OrNothing (IsPut (meta_path layout.now node.now name.now kind) bytes.now))) }
     ensures cause { HasCause (S.state store.old).faults (S.state store.new).faults result }
 {
@@ -85,7 +88,7 @@ pub(crate) fn put_meta<S: Storage>(
     Ok(())
 }
 
-// Reads a file of the snapshot and puts it under its own path.
+// Stores a file of the snapshot under its own path.
 fn place<S: Storage, P: Snap>(
     alloc: Global,
     store: &mut S,
@@ -95,28 +98,26 @@ fn place<S: Storage, P: Snap>(
     name: &BackupName,
     key: &FileKey,
 ) -> Result<FileRecord, CopyFault>
-    requires { IfSome (P.held snap.old) (HasKey key.now) }
+    requires rest { IsAtRest (S.state store.old) }
+    requires key { IfSome (P.state snap.old).held (HasKey key.now) }
     ensures ok { IfOk result
-        (λ file. IsMadeBy (S.state store.old) (S.state store.new) (S.stood_since store.old)
-        (S.stood_since store.new)
-        (ArePut layout.now node.now name.now (P.held snap.old) (key.now ∷ []) (file ∷ []))) }
+        (λ file. IsMadeBy (S.state store.old) (S.state store.new) (S.stood store.old)
+        (S.stood store.new)
+        (ArePut layout.now node.now name.now (P.state snap.old).held (key.now ∷ []) (file ∷ []))) }
     ensures err { OnErr result
-        (IsMadeBy (S.state store.old) (S.state store.new) (S.stood_since store.old)
-        (S.stood_since store.new)
-        (AreFirstPut layout.now node.now name.now (P.held snap.old) (key.now ∷ []))) }
-    ensures same { P.held snap.new ≡ P.held snap.old }
-    ensures snap_later { P.faults snap.old ≤ P.faults snap.new }
+        (IsMadeBy (S.state store.old) (S.state store.new) (S.stood store.old)
+        (S.stood store.new)
+        (AreFirstPut layout.now node.now name.now (P.state snap.old).held (key.now ∷ []))) }
+    ensures same { StaysOpen (P.state snap.old) (P.state snap.new) }
+    ensures snap_later { (P.state snap.old).faults ≤ (P.state snap.new).faults }
     ensures store_later { (S.state store.old).faults ≤ (S.state store.new).faults }
     ensures cause { IfErr result
-        (λ fault. rose_of_node (P.faults snap.old) (P.faults snap.new)
+        (λ fault. rose_of_node (P.state snap.old).faults (P.state snap.new).faults
         (S.state store.old).faults (S.state store.new).faults (device_of fault)) }
 {
     let path = layout.own(alloc, node, name, key)?;
     let record_key = key.copy(alloc)?;
-    let bytes = snap.read(alloc, key).map_err(of_snap)?;
-    let text = bytes.as_slice();
-    let fingerprint = Fingerprint::of(text);
-    store.put(alloc, &path, text).map_err(of_store)?;
+    let fingerprint = store_file(alloc, store, snap, key, &path)?;
     Ok(FileRecord {
         key: record_key,
         path,
@@ -134,20 +135,22 @@ pub(crate) fn place_all<S: Storage, P: Snap>(
     name: &BackupName,
     keys: &[FileKey],
 ) -> Result<Vec<FileRecord>, CopyFault>
-    requires { IfSome (P.held snap.old) (λ s. AllByRecursion (λ key. HasKey key s) keys.now) }
+    requires rest { IsAtRest (S.state store.old) }
+    requires keys { IfSome (P.state snap.old).held
+        (λ s. AllByRecursion (λ key. HasKey key s) keys.now) }
     ensures ok { IfOk result
-        (λ files. IsMadeBy (S.state store.old) (S.state store.new) (S.stood_since store.old)
-        (S.stood_since store.new)
-        (ArePut layout.now node.now name.now (P.held snap.old) keys.now files.items)) }
+        (λ files. IsMadeBy (S.state store.old) (S.state store.new) (S.stood store.old)
+        (S.stood store.new)
+        (ArePut layout.now node.now name.now (P.state snap.old).held keys.now files.items)) }
     ensures err { OnErr result
-        (IsMadeBy (S.state store.old) (S.state store.new) (S.stood_since store.old)
-        (S.stood_since store.new)
-        (AreFirstPut layout.now node.now name.now (P.held snap.old) keys.now)) }
-    ensures same { P.held snap.new ≡ P.held snap.old }
-    ensures snap_later { P.faults snap.old ≤ P.faults snap.new }
+        (IsMadeBy (S.state store.old) (S.state store.new) (S.stood store.old)
+        (S.stood store.new)
+        (AreFirstPut layout.now node.now name.now (P.state snap.old).held keys.now)) }
+    ensures same { StaysOpen (P.state snap.old) (P.state snap.new) }
+    ensures snap_later { (P.state snap.old).faults ≤ (P.state snap.new).faults }
     ensures store_later { (S.state store.old).faults ≤ (S.state store.new).faults }
     ensures cause { IfErr result
-        (λ fault. rose_of_node (P.faults snap.old) (P.faults snap.new)
+        (λ fault. rose_of_node (P.state snap.old).faults (P.state snap.new).faults
         (S.state store.old).faults (S.state store.new).faults (device_of fault)) }
 {
     let mut files = Vec::new(alloc);

@@ -1,5 +1,5 @@
 -- A backup that was made is done, and how the command `backup` ends.
-use Rattle.std.proofs.Common.{◌≡◌, inl, inr, ℕ, List, [], map, Option, Some, None, IfSome, Result, Ok, Err, OnOk, OnErr, refl, sym, ◌∙◌, ap, subst, string_bytes, arith}
+use Rattle.std.proofs.Common.{◌≡◌, inl, inr, ℕ, List, [], map, Option, Some, None, IfSome, Result, Ok, Err, OnOk, OnErr, refl, sym, ap, ◌∙◌, subst, string_bytes, arith}
 use Rattle.std.specs.List.{AllByRecursion}
 use Rattle.std.specs.FinMap.{keys}
 use Rattle.std.proofs.lemmas.Option.{IfSome_then}
@@ -35,7 +35,7 @@ use Rattle.med_backup.specs.NodeConfig.{NodeConfig, opened_at, snap_at}
 use Rattle.med_backup.specs.declared.look.BackupError.{BackupError}
 use Rattle.med_backup.specs.declared.look.BackupError.TheVariants as error
 use Rattle.med_backup.specs.declared.place.CopyFault.TheVariants as copy
-use Rattle.med_backup.proofs.Finished.{finished, backup_of}
+use Rattle.med_backup.proofs.Finished.{records_of, backup_puts, all_puts, finished, backup_of}
 use Rattle.med_commands.specs.Fault.{stop_of, stop_of_load, fault_for}
 use Rattle.med_commands.specs.Headline.{End, says}
 use Rattle.med_commands.specs.Loaded.{AreOverrides, IsConfigFile, IsRefused, no_file, no_ini, bad_option, BlamesLoad}

@@ -2,6 +2,7 @@
 ghost use Rattle.std.specs.Prelude.{◌≡◌, ◌≤◌, OnOk, OnErr};
 ghost use Rattle.med_outside.specs.declared.mode.Mode.TheVariants.{Full};
 ghost use Rattle.med_outside.specs.Ends.{Ends, Steps, seen};
+ghost use Rattle.med_outside.specs.State.{IsAtRest};
 ghost use Rattle.med_outside.specs.World.{world, rose_of, rose_of_output, IsLater};
 ghost use Rattle.med_backup.specs.Plan.{Passed};
 ghost use Rattle.med_words.specs.Views.{asked_of};
@@ -63,18 +64,19 @@ pub(crate) fn back_up<F: Files, S: Storage, N: Nodes, O: Sink>(
     nodes: &mut N,
     out: &mut O,
 ) -> Result<(), Fault>
-    requires { (asked_of request.now).action ≡ backup name.now Full }
+    requires asks { (asked_of request.now).action ≡ backup name.now Full }
+    requires rest { IsAtRest (S.state store.old) }
     ensures ends { let a = world (F.state files.old) (N.state nodes.old) (S.state store.old)
-        (S.stood_since store.old) (O.state out.old) in
+        (S.stood store.old) (O.state out.old) in
         let b = world (F.state files.new) (N.state nodes.new) (S.state store.new)
-        (S.stood_since store.new) (O.state out.new) in
+        (S.stood store.new) (O.state out.new) in
         Ends (rose_of a b) says (plan_of (asked_of request.now) a b)
         (seen (λ x. x) stop_of result) }
     ensures later { IsLater
         (world (F.state files.old) (N.state nodes.old) (S.state store.old)
-        (S.stood_since store.old) (O.state out.old))
+        (S.stood store.old) (O.state out.old))
         (world (F.state files.new) (N.state nodes.new) (S.state store.new)
-        (S.stood_since store.new) (O.state out.new)) }
+        (S.stood store.new) (O.state out.new)) }
 {
     let told_name = match name.copy(alloc) {
         Ok(name) => name,

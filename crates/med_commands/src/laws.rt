@@ -10,8 +10,8 @@ use med_outside::{Files, Nodes, Sink, Storage};
 pub fn what_is_told_decides<F: Files, S: Storage, N: Nodes, O: Sink>()
     ghost sides: { (F × S × N × O) × (F × S × N × O) }
     ensures exact { IsDecided
-        (world (F.state sides.0.0) (N.state sides.0.2) (S.state sides.0.1) (S.stood_since sides.0.1)
+        (world (F.state sides.0.0) (N.state sides.0.2) (S.state sides.0.1) (S.stood sides.0.1)
         (O.state sides.0.3))
-        (world (F.state sides.1.0) (N.state sides.1.2) (S.state sides.1.1) (S.stood_since sides.1.1)
+        (world (F.state sides.1.0) (N.state sides.1.2) (S.state sides.1.1) (S.stood sides.1.1)
         (O.state sides.1.3)) }
 {}

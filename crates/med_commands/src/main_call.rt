@@ -1,6 +1,7 @@
 // The top call.
 ghost use Rattle.std.specs.Prelude.{◌≡◌, ◌≤◌, map, string_bytes, codes};
 ghost use Rattle.med_outside.specs.Ends.{Ends, seen};
+ghost use Rattle.med_outside.specs.State.{IsAtRest};
 ghost use Rattle.med_outside.specs.World.{world, rose_of, IsLater};
 ghost use Rattle.med_words.specs.Views.{asked_of};
 ghost use Rattle.med_commands.specs.Fault.{stop_of};
@@ -26,17 +27,18 @@ fn run<F: Files, S: Storage, N: Nodes, O: Sink>(
     nodes: &mut N,
     out: &mut O,
 ) -> Result<(), Fault>
+    requires { IsAtRest (S.state store.old) }
     ensures ends { let a = world (F.state files.old) (N.state nodes.old) (S.state store.old)
-        (S.stood_since store.old) (O.state out.old) in
+        (S.stood store.old) (O.state out.old) in
         let b = world (F.state files.new) (N.state nodes.new) (S.state store.new)
-        (S.stood_since store.new) (O.state out.new) in
+        (S.stood store.new) (O.state out.new) in
         Ends (rose_of a b) says (plan_of (asked_of request.now) a b)
         (seen (λ x. x) stop_of result) }
     ensures later { IsLater
         (world (F.state files.old) (N.state nodes.old) (S.state store.old)
-        (S.stood_since store.old) (O.state out.old))
+        (S.stood store.old) (O.state out.old))
         (world (F.state files.new) (N.state nodes.new) (S.state store.new)
-        (S.stood_since store.new) (O.state out.new)) }
+        (S.stood store.new) (O.state out.new)) }
 {
     match &request.command {
         Command::Backup {
@@ -53,7 +55,8 @@ fn run<F: Files, S: Storage, N: Nodes, O: Sink>(
 ///
 /// The order of work is: the config file; its ini form; its options; the bucket; the command. A
 /// fault is told on `err` in one line, whose printing takes no memory; a failed write to `err`
-/// leaves the status. A command that isn't built yet is refused before the config file is read.
+/// leaves the status. A command that isn't built yet is refused before the config file is read. The
+/// storage lends no paths and has no upload, and is left so.
 pub fn run_command<F: Files, S: Storage, N: Nodes, O: Sink, E: Sink>(
     alloc: Global,
     request: &Request,
@@ -63,10 +66,11 @@ pub fn run_command<F: Files, S: Storage, N: Nodes, O: Sink, E: Sink>(
     out: &mut O,
     err: &mut E,
 ) -> u8
+    requires { IsAtRest (S.state store.old) }
     ensures answer { let a = world (F.state files.old) (N.state nodes.old) (S.state store.old)
-        (S.stood_since store.old) (O.state out.old) in
+        (S.stood store.old) (O.state out.old) in
         let b = world (F.state files.new) (N.state nodes.new) (S.state store.new)
-        (S.stood_since store.new) (O.state out.new) in
+        (S.stood store.new) (O.state out.new) in
         IsAnswered (plan_of (asked_of request.now) a b) a b (E.state err.old) (E.state err.new)
         result }
 {
@@ -79,8 +83,8 @@ pub fn run_command<F: Files, S: Storage, N: Nodes, O: Sink, E: Sink>(
 /// Runs one command. The words don't contain the program's name.
 ///
 /// The words are read first, and words that ask for nothing are refused before anything else is
-/// done. Then the request is answered as `run_command` says. Each snapshot that was opened is
-/// closed whatever the answer is.
+/// done. Then the request is answered as `run_command` says, under its condition. Each snapshot that
+/// was opened is closed whatever the answer is.
 pub fn medusa_main<F: Files, S: Storage, N: Nodes, O: Sink, E: Sink>(
     alloc: Global,
     words: &[String],
@@ -90,10 +94,11 @@ pub fn medusa_main<F: Files, S: Storage, N: Nodes, O: Sink, E: Sink>(
     out: &mut O,
     err: &mut E,
 ) -> u8
+    requires { IsAtRest (S.state store.old) }
     ensures answer { let a = world (F.state files.old) (N.state nodes.old) (S.state store.old)
-        (S.stood_since store.old) (O.state out.old) in
+        (S.stood store.old) (O.state out.old) in
         let b = world (F.state files.new) (N.state nodes.new) (S.state store.new)
-        (S.stood_since store.new) (O.state out.new) in
+        (S.stood store.new) (O.state out.new) in
         IsAnswered (words_plan (map string_bytes words.now) a b) a b (E.state err.old)
         (E.state err.new) result }
 {

@@ -1,5 +1,6 @@
 pub mod Absent
 pub mod Listing
+pub mod Measure
 pub mod Memory
 pub mod Place
 pub mod Snapshots

@@ -1,19 +1,23 @@
 -- What a listing of folders shows.
-use Rattle.std.specs.Prelude.{ℕ, Bool, not, ◌&&◌, List, IsTrue, IsSortedByKey}
+use Rattle.std.specs.Prelude.{ℕ, Bool, not, ◌&&◌, List, Option, IsTrue, IsSortedByKey}
 use Rattle.std.specs.List.{All}
 use Rattle.std.specs.Ordering.{nat_cmp}
 use Rattle.std.specs.Cmp.Lexicographic.{slice_cmp}
 use Rattle.med_base.specs.Content.{is_under}
 use Rattle.med_folder.specs.Place.{is_unfinished}
+use Rattle.med_outside.specs.Pages.{is_behind}
 use Rattle.med_outside.specs.declared.storage.Entry.{Entry}
+use Rattle.med_outside.specs.declared.storage.PageEnd.{PageEnd}
 
--- the path begins with the text, and isn't in the folder of unfinished files
-unfoldable pub is_shown : (text path : List ℕ) → Bool
-is_shown text path = is_under text path && not (is_unfinished path)
+-- the path begins with the text, comes behind the end of a page, and isn't in the folder of
+-- unfinished files
+unfoldable pub is_shown : (text : List ℕ) → Option PageEnd → (path : List ℕ) → Bool
+is_shown text after path =
+    (is_under text path && not (is_unfinished path)) && is_behind after path
 
 -- each path is shown
-abbrev pub AreShown : List ℕ → List Entry → Type 0
-AreShown text entries = All (λ (e : Entry). IsTrue (is_shown text e.path)) entries
+abbrev pub AreShown : List ℕ → Option PageEnd → List Entry → Type 0
+AreShown text after entries = All (λ (e : Entry). IsTrue (is_shown text after e.path)) entries
 
 -- in byte order of the paths
 abbrev pub AreInOrder : List Entry → Type 0

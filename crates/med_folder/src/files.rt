@@ -3,7 +3,7 @@ use crate::faults::is_absent;
 use crate::paths::parent_of;
 use crate::seconds::{modified_second, moment_of};
 use std::alloc::Global;
-use std::fs::{DirBuilder, File, FileTimes, Files, OpenFile, OpenOptions};
+use std::fs::{DirBuilder, File, FileTimes, Files, Metadata, OpenFile, OpenOptions};
 use std::io::{ErrorKind, Read, Write};
 use std::os::unix::fs::{DirBuilderExt, OpenOptionsExt};
 use std::{fs, io};
@@ -39,13 +39,52 @@ pub(crate) fn is_plain_way<R: Files>(
     Ok(true)
 }
 
-/// The bytes of the plain file at a path. Where anything else lies there, or nothing, it refuses.
-pub(crate) fn read_plain<R: Files>(rt: &R, alloc: Global, path: &str) -> io::Result<Vec<u8>> {
+/// What lies at a path.
+#[derive(Drop)]
+pub(crate) enum Found {
+    /// Nothing has the path, or what would be a folder on the way isn't one.
+    Nothing,
+    /// A link lies there or on the way.
+    Link,
+    /// Something else than a link.
+    Here(Metadata),
+}
+
+/// What lies at a path below `top`. It follows no link.
+pub(crate) fn look_below<R: Files>(
+    rt: &R,
+    alloc: Global,
+    top: &str,
+    path: &str,
+) -> io::Result<Found> {
+    let mut at = String::from_str(alloc, top)?;
+    let mut found = Found::Nothing;
+    for part in path.split('/') {
+        at.push('/')?;
+        at.push_str(part)?;
+        match fs::symlink_metadata(rt, at.as_str()) {
+            Ok(metadata) if metadata.is_symlink() => return Ok(Found::Link),
+            Ok(metadata) => found = Found::Here(metadata),
+            Err(error) if is_absent(&error) => return Ok(Found::Nothing),
+            Err(error) => return Err(error),
+        }
+    }
+    Ok(found)
+}
+
+/// The plain file at a path, opened to be read. Where anything else lies there, or nothing, it
+/// refuses.
+pub(crate) fn open_plain<R: Files>(rt: &R, path: &str) -> io::Result<R::File> {
     if !fs::symlink_metadata(rt, path)?.is_file() {
         return Err(io::Error::from(ErrorKind::InvalidInput));
     }
+    File::open(rt, path)
+}
+
+/// The bytes of the plain file at a path. Where anything else lies there, or nothing, it refuses.
+pub(crate) fn read_plain<R: Files>(rt: &R, alloc: Global, path: &str) -> io::Result<Vec<u8>> {
     let mut bytes = Vec::new(alloc);
-    File::open(rt, path)?.read_to_end(&mut bytes)?;
+    open_plain(rt, path)?.read_to_end(&mut bytes)?;
     Ok(bytes)
 }
 
@@ -57,15 +96,31 @@ pub(crate) fn make_folders<R: Files>(rt: &R, path: &str) -> io::Result<()> {
         .create(rt, path)
 }
 
-// A new file that only its owner reads, in place of one that was left. It follows no link.
-fn create_anew<R: Files>(rt: &R, path: &str) -> io::Result<R::File> {
+/// Removes a file or a link, where there is one. It takes no memory.
+pub(crate) fn remove_there<R: Files>(rt: &R, path: &str) -> io::Result<()> {
     match fs::remove_file(rt, path) {
-        Err(error) if !is_absent(&error) => return Err(error),
-        _ => {}
+        Err(error) if !is_absent(&error) => Err(error),
+        _ => Ok(()),
     }
+}
+
+/// A new file that only its owner reads, in place of one that was left. It follows no link.
+pub(crate) fn create_anew<R: Files>(rt: &R, path: &str) -> io::Result<R::File> {
+    remove_there(rt, path)?;
     let mut options = OpenOptions::new();
     options.write(true).create_new(true).mode(0o600);
     options.open(rt, path)
+}
+
+/// Gives a file that was written the modified time of a second, and has the system keep it. Where
+/// the system tells another size in bytes, or another second, it refuses.
+pub(crate) fn settle<F: OpenFile>(file: &F, size: u64, second: u64) -> io::Result<()> {
+    file.set_times(FileTimes::new().set_modified(moment_of(second)?))?;
+    let metadata = file.metadata()?;
+    if metadata.len() != size || modified_second(&metadata)? != second {
+        return Err(io::Error::from(ErrorKind::InvalidData));
+    }
+    file.sync_all()
 }
 
 /// Writes a new file whose modified time is that second, and has the system keep it.
@@ -77,11 +132,17 @@ pub(crate) fn write_anew<R: Files>(
 ) -> io::Result<()> {
     let mut file = create_anew(rt, path)?;
     file.write_all(bytes)?;
-    file.set_times(FileTimes::new().set_modified(moment_of(second)?))?;
-    if modified_second(&file.metadata()?)? != second {
-        return Err(io::Error::from(ErrorKind::InvalidData));
+    settle(&file, bytes.len() as u64, second)
+}
+
+/// Has the system keep the names in a folder, where there is one. It takes no memory, so that what
+/// was removed isn't refused for want of it.
+pub(crate) fn sync_there<R: Files>(rt: &R, folder: &str) -> io::Result<()> {
+    match fs::metadata(rt, folder) {
+        Ok(metadata) if metadata.is_dir() => File::open(rt, folder)?.sync_all(),
+        Err(error) if !is_absent(&error) => Err(error),
+        _ => Ok(()),
     }
-    file.sync_all()
 }
 
 /// Has the system keep the names in the folders on the way from `top` down to what the path names.

@@ -7,15 +7,22 @@
 //! Read `specs/Untold.antt`, then `src/faults.rt` and `src/store.rt`.
 #![tactic(auto)]
 
+mod appended;
 mod faults;
 mod files;
+mod keys;
+mod measure;
 mod nodes;
+mod objects;
+mod pages;
 mod paths;
+mod pieces;
 mod real_files;
 mod seconds;
 mod sink;
 mod snap;
 mod store;
+mod uploads;
 mod walk;
 
 pub use nodes::FolderNodes;

@@ -1,47 +1,46 @@
 // Nodes as folders.
 ghost use Rattle.std.specs.Prelude.{◌≡◌, [], IfOk};
 ghost use Rattle.med_outside.specs.Counts.{tagged};
-ghost use Rattle.med_folder.specs.Untold.{folder_nodes_state, untold_nodes};
+ghost use Rattle.med_folder.specs.Untold.{untold_nodes};
 
 use crate::FolderSnap;
 use crate::faults::counted;
-use crate::snap::open_snap;
+use crate::snap::node_folder;
 use med_base::Fqdn;
-use med_outside::{Denied, Nodes, OpenedFor};
+use med_outside::{Denied, Nodes, OpenSnapshots};
 use std::alloc::Global;
 use std::fs::Files;
 use std::marker::Model;
 
 /// The nodes whose folders lie below a root: the data of the node `f` in `<root>/<f>/data`, its
-/// schema in `<root>/<f>/schema.cql`.
+/// schema in `<root>/<f>/schema.cql`, its ring in `<root>/<f>/ring.json`.
 #[derive(Drop)]
 pub struct FolderNodes<R> {
     rt: R,
     faults: u64,
-    opened: u64,
-    closed: u64,
-    last: OpenedFor,
+    snapshots: OpenSnapshots,
 }
 
 impl<R> Model for FolderNodes<R> {
-    ghost use Rattle.med_folder.specs.Untold.{FolderNodesState, folder_nodes_state};
+    ghost use Rattle.med_folder.specs.Untold.{FolderNodesState};
 
     ghost Value = { FolderNodesState };
 
-    ghost view = { λ s. folder_nodes_state s.faults s.opened s.closed s.last };
+    ghost view = { λ s. record { faults = s.faults; counts = s.snapshots } };
 }
 
 impl<R> FolderNodes<R> {
     /// Nodes without a fault, of which no snapshot was opened.
     pub fn new(alloc: Global, rt: R) -> FolderNodes<R>
-        ensures { result ≡ folder_nodes_state 0 0 0 (tagged [] [] []) }
+        ensures { result ≡ record {
+          faults = 0;
+          counts = record { opened = 0; still_open = []; last = tagged [] [] [] };
+        } }
     {
         FolderNodes {
             rt,
             faults: 0,
-            opened: 0,
-            closed: 0,
-            last: OpenedFor::nothing(alloc),
+            snapshots: OpenSnapshots::none(alloc),
         }
     }
 }
@@ -58,16 +57,15 @@ impl<R: Files + AllocGlobal + Clone + Drop> Nodes for FolderNodes<R> {
         node: &Fqdn,
         tag: &str,
     ) -> Result<FolderSnap<R>, Denied> {
-        let opened = OpenedFor::of(alloc, root, node.as_str(), tag)?;
-        let outcome = open_snap(&self.rt, alloc, root, node.as_str(), tag);
-        let snap = counted(&mut self.faults, outcome)?;
-        self.opened = self.opened.saturating_add(1);
-        self.last = opened;
-        Ok(snap)
+        let node = node.as_str();
+        let outcome = node_folder(&self.rt, alloc, root, node, tag);
+        let folder = counted(&mut self.faults, outcome)?;
+        let opened = self.snapshots.open(alloc, root, node, tag)?;
+        Ok(FolderSnap::new(folder, opened))
     }
 
     fn close(&mut self, snap: FolderSnap<R>) {
         self.faults = self.faults.saturating_add(snap.fault_count());
-        self.closed = self.closed.saturating_add(1);
+        self.snapshots.close(snap.opened_for());
     }
 }

@@ -1,23 +1,25 @@
 // A bucket as a folder.
-ghost use Rattle.std.specs.Prelude.{◌≡◌, [], true, IfOk, IfSome, IsErrOf, OnOk, string_bytes};
+ghost use Rattle.std.specs.Prelude.{◌≡◌, [], true, None, Some, IfOk, IfSome, IsErrOf, OnErr, OnOk, option_map, string_bytes};
 ghost use Rattle.med_outside.specs.declared.denied.Denied.TheVariants.{Failed, Memory};
-ghost use Rattle.med_outside.specs.Causes.{HasCause};
-ghost use Rattle.med_outside.specs.State.{OnlyReads, bucket_of};
-ghost use Rattle.med_outside.specs.Storage.{Put, MayPut, listing};
+ghost use Rattle.med_outside.specs.Pages.{CountsDown, IsPage, last_path, shown};
+ghost use Rattle.med_outside.specs.Pieces.{AnswersPiece, EndsInRange, begun, with_piece, with_upload};
+ghost use Rattle.med_outside.specs.State.{ChangesOnce, IsCalled, OnlyReads, bucket_of};
+ghost use Rattle.med_outside.specs.Storage.{AnswersBytes, AnswersStat, Delete, MayDelete, MayPut, Put};
 ghost use Rattle.med_folder.specs.Listing.{AreShown, AreInOrder};
 ghost use Rattle.med_folder.specs.Place.{bucket_folder, is_object_path};
 ghost use Rattle.med_folder.specs.Untold.{untold, never};
 
 use crate::faults::{counted, is_absent};
-use crate::files::{check_folder, is_plain_way, make_folders, move_in, sync_way, write_anew};
-use crate::paths::{UNFINISHED, UPLOAD, is_object_path, joined, parent_of};
+use crate::files::{make_folders, sync_way};
+use crate::objects::{delete_file, get_file, piece_of_file, put_file, stat_file};
+use crate::pages::page_behind;
+use crate::paths::{UNFINISHED, joined};
 use crate::seconds::second_or;
-use crate::walk::files_under;
-use med_base::{Layout, ObjPath};
-use med_outside::{Denied, Entry, Storage};
+use crate::uploads::{Unfinished, append_to, begin_file, commit_file, give_up};
+use med_base::{Layout, NoMemory, ObjPath};
+use med_outside::{Denied, Page, PageEnd, Piece, Stat, Storage};
 use std::alloc::Global;
 use std::fs::Files;
-use std::io::ErrorKind;
 use std::marker::Model;
 use std::time::Clock;
 use std::{fs, io};
@@ -25,7 +27,7 @@ use std::{fs, io};
 /// A bucket whose objects are plain files: the object `p` is the file `<base>/<bucket>/p`. A put
 /// writes a file under `<base>/<bucket>/.medusa-tmp`, which no listing shows, and renames it.
 #[derive(Drop)]
-pub struct FolderStore<R> {
+pub struct FolderStore<R: Files> {
     rt: R,
     folder: String,
     base: String,
@@ -34,9 +36,10 @@ pub struct FolderStore<R> {
     opens: u64,
     last: u64,
     faults: u64,
+    upload: Option<Unfinished<R::File>>,
 }
 
-impl<R> Model for FolderStore<R> {
+impl<R: Files> Model for FolderStore<R> {
     ghost use Rattle.std.specs.Prelude.{◌≡◌, ◌⊎◌, [], string_bytes};
     ghost use Rattle.med_outside.specs.State.{bucket_of};
     ghost use Rattle.med_folder.specs.Place.{bucket_folder};
@@ -47,6 +50,7 @@ impl<R> Model for FolderStore<R> {
     ghost view = { λ s. record {
       faults = s.faults;
       bucket = bucket_of (string_bytes s.base) (string_bytes s.bucket) s.layout s.opens;
+      upload = s.upload;
     } };
 
     // The folder is that of the bucket that is open, or none is open.
@@ -54,10 +58,10 @@ impl<R> Model for FolderStore<R> {
         ⊎ (string_bytes s.folder ≡ bucket_folder (string_bytes s.base) (string_bytes s.bucket)) };
 }
 
-impl<R> FolderStore<R> {
+impl<R: Files> FolderStore<R> {
     /// A store that isn't open yet: until then each put and listing is a fault. It takes no memory.
     pub fn new(alloc: Global, rt: R) -> FolderStore<R>
-        ensures { result ≡ record { faults = 0; bucket = bucket_of [] [] [] 0 } }
+        ensures { result ≡ record { faults = 0; bucket = bucket_of [] [] [] 0; upload = None } }
     {
         FolderStore {
             rt,
@@ -68,6 +72,7 @@ impl<R> FolderStore<R> {
             opens: 0,
             last: 0,
             faults: 0,
+            upload: None,
         }
     }
 }
@@ -98,33 +103,10 @@ fn open_bucket<R: Files + AllocGlobal>(
     Ok(folder)
 }
 
-fn put_file<R: Files>(
-    rt: &R,
-    alloc: Global,
-    bucket: &str,
-    path: &str,
-    bytes: &[u8],
-    second: u64,
-) -> io::Result<()>
-    ensures { OnOk result (is_object_path path.now ≡ true) }
-{
-    check_folder(rt, bucket)?;
-    if !is_object_path(path.as_bytes())
-        || !is_plain_way(rt, alloc, bucket, parent_of(path))?
-        || !is_plain_way(rt, alloc, bucket, UNFINISHED)?
-    {
-        return Err(io::Error::from(ErrorKind::InvalidFilename));
-    }
-    let place = joined(alloc, bucket, path)?;
-    let unfinished = joined(alloc, bucket, UPLOAD)?;
-    write_anew(rt, unfinished.as_str(), bytes, second)?;
-    move_in(rt, unfinished.as_str(), bucket, place.as_str())
-}
-
 impl<R: Files + Clock + AllocGlobal + Clone + Drop> Storage for FolderStore<R> {
     ghost state = { untold };
 
-    ghost stood_since = { λ _. never };
+    ghost stood = { λ _. never };
 
     fn open(
         &mut self,
@@ -150,15 +132,40 @@ impl<R: Files + Clock + AllocGlobal + Clone + Drop> Storage for FolderStore<R> {
         self.last
     }
 
-    /// As the trait says. A path that isn't an object's is a fault.
+    /// As the trait says. A path that isn't an object's is a fault, and so is a link in place of
+    /// the file or on the way.
+    fn stat(&mut self, alloc: Global, path: &ObjPath) -> Result<Option<Stat>, Denied>
+        ensures answer { IfOk result (AnswersStat path.now (untold self.old).content) }
+        ensures looks { OnlyReads (untold self.old) (untold self.new) never never }
+        ensures called { IsCalled (untold self.old) (untold self.new) result }
+        ensures place { OnOk result (is_object_path path.now ≡ true) }
+    {
+        let outcome = stat_file(&self.rt, alloc, self.folder.as_str(), path.as_str());
+        counted(&mut self.faults, outcome)
+    }
+
+    /// As the trait says, with the faults of `stat`.
+    fn get(&mut self, alloc: Global, path: &ObjPath) -> Result<Option<Vec<u8>>, Denied>
+        ensures answer { IfOk result
+            (λ found. AnswersBytes path.now (untold self.old).content
+            (option_map (λ bytes. bytes.items) found)) }
+        ensures looks { OnlyReads (untold self.old) (untold self.new) never never }
+        ensures called { IsCalled (untold self.old) (untold self.new) result }
+        ensures place { OnOk result (is_object_path path.now ≡ true) }
+    {
+        let outcome = get_file(&self.rt, alloc, self.folder.as_str(), path.as_str());
+        counted(&mut self.faults, outcome)
+    }
+
+    /// As the trait says. A path that isn't an object's is a fault, and so is a link on the way.
     fn put(&mut self, alloc: Global, path: &ObjPath, bytes: &[u8]) -> Result<u64, Denied>
         ensures ok { IfOk result
             (Put path.now bytes.now (untold self.old) (untold self.new) never never) }
         ensures failed { IsErrOf result Denied.Failed
             → MayPut path.now bytes.now (untold self.old) (untold self.new) never never }
         ensures memory { IsErrOf result Denied.Memory
-            → OnlyReads (untold self.old) (untold self.new) never never }
-        ensures cause { HasCause self.old.faults self.new.faults result }
+            → ChangesOnce [] (untold self.old) (untold self.new) never never }
+        ensures called { IsCalled (untold self.old) (untold self.new) result }
         ensures place { OnOk result (is_object_path path.now ≡ true) }
     {
         let second = self.now();
@@ -168,21 +175,130 @@ impl<R: Files + Clock + AllocGlobal + Clone + Drop> Storage for FolderStore<R> {
         Ok(second)
     }
 
-    /// As the trait says. Only plain files are listed, and no link is followed.
-    fn list(&mut self, alloc: Global, under: &str) -> Result<Vec<Entry>, Denied>
-        ensures entries { IfOk result
-            (λ entries. IfSome (untold self.old).content
-            (λ c. entries.items ≡ listing under.now c)) }
-        ensures looks { OnlyReads (untold self.old) (untold self.new) never never }
-        ensures cause { HasCause self.old.faults self.new.faults result }
-        ensures shown { IfOk result (λ entries. AreShown under.now entries.items) }
-        ensures order { IfOk result (λ entries. AreInOrder entries.items) }
+    /// As the trait says, with the faults of `stat`. Only a plain file is removed; folders stay.
+    fn delete(&mut self, alloc: Global, path: &ObjPath) -> Result<(), Denied>
+        ensures ok { OnOk result
+            (Delete path.now (untold self.old) (untold self.new) never never) }
+        ensures failed { IsErrOf result Denied.Failed
+            → MayDelete path.now (untold self.old) (untold self.new) never never }
+        ensures memory { IsErrOf result Denied.Memory
+            → ChangesOnce [] (untold self.old) (untold self.new) never never }
+        ensures full { IsErrOf result Denied.Memory
+            → IfSome (untold self.old).room (λ room. room ≡ 0) }
+        ensures called { IsCalled (untold self.old) (untold self.new) result }
+        ensures place { OnOk result (is_object_path path.now ≡ true) }
     {
-        let outcome = files_under(&self.rt, alloc, self.folder.as_str(), under);
+        let outcome = delete_file(&self.rt, alloc, self.folder.as_str(), path.as_str());
         counted(&mut self.faults, outcome)
+    }
+
+    /// As the trait says. Only plain files are listed, and no link is followed. Where the files
+    /// behind the end of a page aren't as many as were left there, it is a fault.
+    fn list_page(
+        &mut self,
+        alloc: Global,
+        under: &str,
+        after: Option<&PageEnd>,
+    ) -> Result<Page, Denied>
+        ensures page { IfOk result
+            (λ page. IfSome (untold self.old).content
+            (λ c. IsPage under.now (shown after.entry) c page)) }
+        ensures counts { IfOk result (CountsDown (shown after.entry)) }
+        ensures looks { OnlyReads (untold self.old) (untold self.new) never never }
+        ensures called { IsCalled (untold self.old) (untold self.new) result }
+        ensures shown { IfOk result
+            (λ page. AreShown under.now (shown after.entry) page.entries.items) }
+        ensures order { IfOk result (λ page. AreInOrder page.entries.items) }
+        ensures path { IfOk result (λ page. IfSome page.end
+            (λ end. end.path ≡ last_path page.entries.items)) }
+    {
+        let outcome = page_behind(&self.rt, alloc, self.folder.as_str(), under, after);
+        counted(&mut self.faults, outcome)
+    }
+
+    fn make_room(&mut self, _alloc: Global, _changes: u64) -> Result<(), NoMemory> {
+        Ok(())
+    }
+
+    /// As the trait says, with the faults of `stat`. The file is opened anew for each piece.
+    fn get_piece(
+        &mut self,
+        alloc: Global,
+        path: &ObjPath,
+        from: u64,
+    ) -> Result<Option<Piece>, Denied>
+        ensures answer { IfOk result (AnswersPiece path.now from (untold self.old).content) }
+        ensures range { IfOk result (λ found. IfSome found (EndsInRange from)) }
+        ensures looks { OnlyReads (untold self.old) (untold self.new) never never }
+        ensures called { IsCalled (untold self.old) (untold self.new) result }
+        ensures place { OnOk result (is_object_path path.now ≡ true) }
+    {
+        let bucket = self.folder.as_str();
+        let outcome = piece_of_file(&self.rt, alloc, bucket, path.as_str(), from);
+        counted(&mut self.faults, outcome)
+    }
+
+    /// As the trait says, with the faults of `put`.
+    fn begin(&mut self, alloc: Global, path: &ObjPath) -> Result<(), Denied>
+        ensures ok { OnOk result
+            (OnlyReads (with_upload (Some (begun path.now)) (untold self.old)) (untold self.new)
+            never never) }
+        ensures err { OnErr result (OnlyReads (untold self.old) (untold self.new) never never) }
+        ensures called { IsCalled (untold self.old) (untold self.new) result }
+        ensures place { OnOk result (is_object_path path.now ≡ true) }
+    {
+        let outcome = begin_file(&self.rt, alloc, self.folder.as_str(), path.as_str());
+        self.upload = Some(counted(&mut self.faults, outcome)?);
+        Ok(())
+    }
+
+    /// As the trait says. Where there is no upload, it is a fault.
+    fn append(&mut self, _alloc: Global, piece: &Piece) -> Result<(), Denied>
+        ensures ok { OnOk result
+            (OnlyReads (with_upload (with_piece piece.now (untold self.old).upload)
+            (untold self.old)) (untold self.new) never never) }
+        ensures err { OnErr result
+            (OnlyReads (with_upload None (untold self.old)) (untold self.new) never never) }
+        ensures called { IsCalled (untold self.old) (untold self.new) result }
+    {
+        let outcome = append_to(&self.rt, self.upload.take(), piece.bytes());
+        self.upload = Some(counted(&mut self.faults, outcome)?);
+        Ok(())
+    }
+
+    /// As the trait says, with the faults of `put`. Where there is no upload, or its file hasn't as
+    /// many bytes as were appended, it is a fault.
+    fn commit(&mut self, alloc: Global) -> Result<u64, Denied>
+        ensures ok { IfOk result
+            (λ at. IfSome (untold self.old).upload
+            (λ u. Put u.path u.bytes (with_upload None (untold self.old)) (untold self.new)
+            never never at)) }
+        ensures failed { IsErrOf result Denied.Failed
+            → IfSome (untold self.old).upload
+            (λ u. MayPut u.path u.bytes (with_upload None (untold self.old)) (untold self.new)
+            never never) }
+        ensures memory { IsErrOf result Denied.Memory
+            → ChangesOnce [] (with_upload None (untold self.old)) (untold self.new) never never }
+        ensures called { IsCalled (untold self.old) (untold self.new) result }
+    {
+        let second = self.now();
+        let upload = self.upload.take();
+        let outcome = commit_file(&self.rt, alloc, self.folder.as_str(), upload, second);
+        counted(&mut self.faults, outcome)?;
+        Ok(second)
+    }
+
+    fn drop_upload(&mut self) {
+        if let Some(upload) = self.upload.take() {
+            give_up(&self.rt, upload);
+        }
     }
 
     ghost counts_now = { λ _ _ _ _ e. cc e };
 
     ghost only_now = { λ _ _ e. absurd e };
+
+    ghost widens = { λ _ _ _ _ _ _ _ _ e. absurd e };
+
+    ghost told = { λ _ _ e. cc e };
 }

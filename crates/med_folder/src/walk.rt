@@ -3,6 +3,7 @@ ghost use Rattle.std.specs.Prelude.{◌≡◌, ◌||◌, ◌&&◌, not, [], IfOk
 ghost use Rattle.std.specs.Ordering.{nat_cmp};
 ghost use Rattle.std.specs.Cmp.Lexicographic.{slice_cmp};
 ghost use Rattle.med_base.specs.Content.{is_under};
+ghost use Rattle.med_outside.specs.Pages.{is_behind, shown};
 ghost use Rattle.med_folder.specs.Listing.{is_shown, AreShown, AreInOrder};
 ghost use Rattle.med_folder.specs.Place.{is_unfinished};
 
@@ -11,7 +12,7 @@ use crate::files::{check_folder, is_plain_way};
 use crate::paths::{is_object_path, is_unfinished, joined, parent_of};
 use crate::seconds::modified_second;
 use med_base::ObjPath;
-use med_outside::Entry;
+use med_outside::{Entry, PageEnd};
 use std::alloc::Global;
 use std::cmp::Ordering;
 use std::fs::{DirEntry, Files, Metadata};
@@ -34,16 +35,18 @@ fn first_folders<R: Files>(
     Ok(folders)
 }
 
-/// The plain files below the bucket's folder whose path from there begins with a text, in byte
-/// order of these paths. No link is followed, and what is neither a file nor a folder is passed
+/// The plain files below the bucket's folder whose path from there begins with a text and comes
+/// behind the end of a page, in byte order of these paths. No link is followed, and what is neither a file nor a folder is passed
 /// over.
 pub(crate) fn files_under<R: Files + AllocGlobal + Clone + Drop>(
     rt: &R,
     alloc: Global,
     bucket: &str,
     under: &str,
+    after: Option<&PageEnd>,
 ) -> io::Result<Vec<Entry>>
-    ensures shown { IfOk result (λ entries. AreShown under.now entries.items) }
+    ensures shown { IfOk result
+        (λ entries. AreShown under.now (shown after.entry) entries.items) }
     ensures order { IfOk result (λ entries. AreInOrder entries.items) }
 {
     check_folder(rt, bucket)?;
@@ -55,7 +58,16 @@ pub(crate) fn files_under<R: Files + AllocGlobal + Clone + Drop>(
             return Ok(found);
         };
         let folder = folder.as_str();
-        look_into(rt, alloc, bucket, folder, under, &mut folders, &mut found)?;
+        look_into(
+            rt,
+            alloc,
+            bucket,
+            folder,
+            under,
+            after,
+            &mut folders,
+            &mut found,
+        )?;
     }
     Err(io::Error::from(io::ErrorKind::FilesystemLoop))
 }
@@ -80,11 +92,12 @@ fn look_into<R: Files + AllocGlobal + Clone + Drop>(
     bucket: &str,
     folder: &str,
     under: &str,
+    after: Option<&PageEnd>,
     folders: &mut Vec<String>,
     found: &mut Vec<Entry>,
 ) -> io::Result<()>
-    requires { AreShown under.now found.old.items }
-    ensures { AreShown under.now found.new.items }
+    requires { AreShown under.now (shown after) found.old.items }
+    ensures { AreShown under.now (shown after.entry) found.new.items }
 {
     let path = joined(alloc, bucket, folder)?;
     let listing = match fs::read_dir(rt, path.as_str()) {
@@ -93,7 +106,7 @@ fn look_into<R: Files + AllocGlobal + Clone + Drop>(
         Err(error) => return Err(error),
     };
     'entries: for entry in listing {
-        take_entry(alloc, &entry?, folder, under, folders, found)?;
+        take_entry(alloc, &entry?, folder, under, after, folders, found)?;
     }
     Ok(())
 }
@@ -105,11 +118,12 @@ fn take_entry<R: Files + Clone + Drop>(
     entry: &DirEntry<R, Global>,
     folder: &str,
     under: &str,
+    after: Option<&PageEnd>,
     folders: &mut Vec<String>,
     found: &mut Vec<Entry>,
 ) -> io::Result<()>
-    requires { AreShown under.now found.old.items }
-    ensures { AreShown under.now found.new.items }
+    requires { AreShown under.now (shown after) found.old.items }
+    ensures { AreShown under.now (shown after.entry) found.new.items }
 {
     let mut path = String::from_str(alloc, folder)?;
     path.push_str(entry.file_name())?;
@@ -125,7 +139,7 @@ fn take_entry<R: Files + Clone + Drop>(
         }
         Ok(())
     } else if metadata.is_file() {
-        take_file(path, &metadata, under, found)
+        take_file(path, &metadata, under, after, found)
     } else {
         Ok(())
     }
@@ -136,12 +150,13 @@ fn take_file(
     path: String,
     metadata: &Metadata,
     under: &str,
+    after: Option<&PageEnd>,
     found: &mut Vec<Entry>,
 ) -> io::Result<()>
-    requires { AreShown under.now found.old.items }
-    ensures { AreShown under.now found.new.items }
+    requires { AreShown under.now (shown after) found.old.items }
+    ensures { AreShown under.now (shown after.entry) found.new.items }
 {
-    if !is_shown(path.as_str(), under) {
+    if !is_shown(path.as_str(), under, after) {
         return Ok(());
     }
     let size = metadata.len();
@@ -152,10 +167,20 @@ fn take_file(
 }
 
 #[tactic(auto, unfolding(crate::specs::Listing::is_shown))]
-fn is_shown(path: &str, text: &str) -> bool
-    ensures { result ≡ is_shown text.now path.now }
+fn is_shown(path: &str, text: &str, after: Option<&PageEnd>) -> bool
+    ensures { result ≡ is_shown text.now (shown after.entry) path.now }
 {
-    is_under_text(path, text) && !is_unfinished(path.as_bytes())
+    is_under_text(path, text) && !is_unfinished(path.as_bytes()) && is_behind(path, after)
+}
+
+// Whether a path comes behind the end of a page.
+fn is_behind(path: &str, after: Option<&PageEnd>) -> bool
+    ensures { result ≡ is_behind (shown after.entry) path.now }
+{
+    match after {
+        Some(end) => end.path.as_str().cmp(path).is_lt(),
+        None => true,
+    }
 }
 
 fn is_under_text(path: &str, text: &str) -> bool

@@ -24,28 +24,28 @@ nothing_more (Some s) = refl
 
 module _ (root node tag : List ℕ) where
   abbrev IsOwn : Given → Type 0
-  IsOwn g = (g.root ≡ root) × (g.node ≡ node) × (g.tag ≡ tag)
+  IsOwn g = (g.of.root ≡ root) × (g.of.node ≡ node) × (g.of.tag ≡ tag)
 
   is_for_own : (g : Given) → IsOwn g → is_for root node tag g ≡ true
   is_for_own g (r, n, t) =
       all_true _ _ _
-      ((bytes_eq-Decides g.root root).1 r)
-      ((bytes_eq-Decides g.node node).1 n)
-      ((bytes_eq-Decides g.tag tag).1 t)
+      ((bytes_eq-Decides g.of.root root).1 r)
+      ((bytes_eq-Decides g.of.node node).1 n)
+      ((bytes_eq-Decides g.of.tag tag).1 t)
 
   own_parts : (g : Given) → is_for root node tag g ≡ true → IsOwn g
   own_parts g is =
       let parts = each_true _ _ _ is in (
-        (bytes_eq-Decides g.root root).0 parts.0,
-        (bytes_eq-Decides g.node node).0 parts.1,
-        (bytes_eq-Decides g.tag tag).0 parts.2,
+        (bytes_eq-Decides g.of.root root).0 parts.0,
+        (bytes_eq-Decides g.of.node node).0 parts.1,
+        (bytes_eq-Decides g.of.tag tag).0 parts.2,
       )
 
   abbrev first : List Given → Option Snapshot
   first = first_for root node tag
 
   abbrev held : Given → Snapshot
-  held g = snapshot_with g.files g.schema
+  held g = snapshot_with g.parts
 
   abbrev own : Given → Option Snapshot
   own g = cond (is_for root node tag g) (Some (held g)) None
@@ -76,7 +76,8 @@ module _ (root node tag : List ℕ) where
 
   -- one that was added for others
   pub added_elsewhere : (gs : List Given) (g : Given)
-      → ¬ ((root ≡ g.root) × (node ≡ g.node) × (tag ≡ g.tag)) → first (gs ++ g ∷ []) ≡ first gs
+      → ¬ ((root ≡ g.of.root) × (node ≡ g.of.node) × (tag ≡ g.of.tag))
+      → first (gs ++ g ∷ []) ≡ first gs
   added_elsewhere gs g other = go (is_for root node tag g) refl
     where
       go : (b : Bool) → is_for root node tag g ≡ b → first (gs ++ g ∷ []) ≡ first gs

@@ -1,5 +1,10 @@
 pub mod Notes
 pub mod Moments
 pub mod Places
+pub mod PageLemmas
+pub mod PieceLemmas
 pub mod Keys
+pub mod FirstPlaceLemmas
 pub mod Given
+pub mod FaultLemmas
+pub mod CallLemmas

@@ -1,27 +1,32 @@
 -- What the calls of a store in memory leave.
-use Rattle.std.specs.Prelude.{◌≡◌, ◌+◌, ◌-◌, ◌^◌, ℕ, min, List, [], ◌∷◌, ◌++◌, Result, Ok, Err, IsErrOf}
+use Rattle.std.specs.Prelude.{◌≡◌, ◌+◌, ◌-◌, ◌^◌, ℕ, min, max, Bool, true, false, List, [], ◌∷◌, ◌++◌, Option, Some, None, Result, Ok, Err, IsErr, IsErrOf, IsTrue, is_some}
 use Rattle.med_base.specs.Content.{with_object}
 use Rattle.med_outside.specs.Causes.{one_more}
 use Rattle.med_outside.specs.declared.denied.Denied.{Denied}
 use Rattle.med_outside.specs.declared.denied.Denied.TheVariants.{Failed, Memory}
-use Rattle.med_outside.specs.Effects.{Stores}
-use Rattle.med_outside.specs.State.{ChangesWithin, OnlyReads, bucket_of, opened}
-use Rattle.med_outside.specs.Storage.{Put}
-use Rattle.med_mem.specs.Told.{Note, Told, content_of, stood_since_of, state_of}
+use Rattle.med_outside.specs.Effects.{Effect, Stores}
+use Rattle.med_outside.specs.State.{OnlyReads, Upload, bucket_of, opened}
+use Rattle.med_outside.specs.Storage.{Put, Delete}
+use Rattle.med_mem.specs.declared.faults.MemWhen.{MemWhen}
+use Rattle.med_mem.specs.declared.faults.MemFault.{MemFault}
+use Rattle.med_mem.specs.Told.{Note, Told, content_of, stood_of, state_of}
 
--- an object was stored
-abbrev pub note_of : ℕ → List ℕ → List ℕ → ℕ → Note
-note_of call path bytes second = record { call = call; effect = Stores path bytes second }
+-- a change that was made when so many calls had been made
+abbrev pub note_of : ℕ → Effect → Note
+note_of call effect = record { call = call; effect = effect }
 
 -- the same store with an object that no call of the trait stored
 abbrev pub with_added : List ℕ → List ℕ → ℕ → Told → Told
 with_added path bytes second m = record {
-  notes = m.notes ++ note_of m.calls path bytes second ∷ [];
+  notes = m.notes ++ note_of m.calls (Stores path bytes second) ∷ [];
   clock = m.clock;
   tick = m.tick;
   calls = m.calls;
   faults = m.faults;
+  room = m.room;
+  to_fail = m.to_fail;
   bucket = m.bucket;
+  upload = m.upload;
 }
 
 -- the content is the old one with the object
@@ -37,7 +42,52 @@ with_clock clock m = record {
   tick = m.tick;
   calls = m.calls;
   faults = m.faults;
+  room = m.room;
+  to_fail = m.to_fail;
   bucket = m.bucket;
+  upload = m.upload;
+}
+
+-- the same store with memory for so many changes at least
+abbrev pub with_room_for : ℕ → Told → Told
+with_room_for changes m = record {
+  notes = m.notes;
+  clock = m.clock;
+  tick = m.tick;
+  calls = m.calls;
+  faults = m.faults;
+  room = max m.room changes;
+  to_fail = m.to_fail;
+  bucket = m.bucket;
+  upload = m.upload;
+}
+
+-- the same store with one more call that is set to fail
+abbrev pub with_fault : MemWhen → Bool → Told → Told
+with_fault when lands m = record {
+  notes = m.notes;
+  clock = m.clock;
+  tick = m.tick;
+  calls = m.calls;
+  faults = m.faults;
+  room = m.room;
+  to_fail = m.to_fail ++ record { when = when; lands = lands } ∷ [];
+  bucket = m.bucket;
+  upload = m.upload;
+}
+
+-- the same store with that upload
+abbrev pub uploading : Option Upload → Told → Told
+uploading upload m = record {
+  notes = m.notes;
+  clock = m.clock;
+  tick = m.tick;
+  calls = m.calls;
+  faults = m.faults;
+  room = m.room;
+  to_fail = m.to_fail;
+  bucket = m.bucket;
+  upload = upload;
 }
 
 -- a store without objects that no call was made of, of a bucket and a base of no name and under the
@@ -49,12 +99,11 @@ new_at clock tick = record {
   tick = tick;
   calls = 0;
   faults = 0;
+  room = 0;
+  to_fail = [];
   bucket = bucket_of [] [] [] 0;
+  upload = None;
 }
-
--- no call more can be counted
-abbrev pub IsFull : Told → Type 0
-IsFull m = m.calls ≡ 2 ^ 64 - 1
 
 -- one fault more after a failure, up to the last value of a 64-bit counter
 abbrev pub faults_after : {T : Type 0} → Result T Denied → ℕ → ℕ
@@ -62,27 +111,44 @@ faults_after (Ok x) faults = faults
 faults_after (Err Failed) faults = one_more faults
 faults_after (Err Memory) faults = faults
 
--- the call was counted, and so was its failure, which comes only where no call can be counted
-pub record Counts {T : Type 0} (old new : Told) (result : Result T Denied) : Type 0 where
-  pub calls : new.calls ≡ one_more old.calls
-  pub faults : new.faults ≡ faults_after result old.faults
-  pub full : IsErrOf result Failed → IsFull old
-  pub told : IsFull old → IsErrOf result Failed
+-- The call was counted, and so was its failure. It failed where the first says so, and else only
+-- for want of memory; these are set to fail from now on.
+pub record Counts {T : Type 0} (set : Option Bool) (left : List MemFault) (old new : Told)
+    (result : Result T Denied) : Type 0
+  where
+    pub calls : new.calls ≡ one_more old.calls
+    pub faults : new.faults ≡ faults_after result old.faults
+    pub to_fail : new.to_fail ≡ left
+    pub full : IsErrOf result Failed → IsTrue (is_some set)
+    pub told : set ≡ Some false → IsErrOf result Failed
+    pub lands : set ≡ Some true → IsErr result
 
 -- nothing changed but the number of calls and the count of faults, in the words of the trait
 abbrev pub Stays : Told → Told → Type 0
-Stays old new = OnlyReads (state_of old) (state_of new) (stood_since_of old) (stood_since_of new)
+Stays old new = OnlyReads (state_of old) (state_of new) (stood_of old) (stood_of new)
 
 -- the bucket alone changed, in the same words
 abbrev pub IsOpened : (base bucket layout : List ℕ) → Told → Told → Type 0
 IsOpened base bucket layout old new =
     let before = opened base bucket layout (state_of old) in
-    ChangesWithin [] before (state_of new) (stood_since_of old) (stood_since_of new)
+    OnlyReads before (state_of new) (stood_of old) (stood_of new)
 
 -- the object was stored with that second, in the same words
 abbrev pub IsPut : (path bytes : List ℕ) (old new : Told) (second : ℕ) → Type 0
 IsPut path bytes old new second =
-    Put path bytes (state_of old) (state_of new) (stood_since_of old) (stood_since_of new) second
+    Put path bytes (state_of old) (state_of new) (stood_of old) (stood_of new) second
+
+-- the object was removed, if there was one, in the same words
+abbrev pub IsDeleted : List ℕ → (old new : Told) → Type 0
+IsDeleted path old new = Delete path (state_of old) (state_of new) (stood_of old) (stood_of new)
+
+-- what is left of a put or a delete that was refused: it was done where it was set to fail and to
+-- take effect, and else nothing changed
+abbrev pub Leaves : (done kept : Type 0) → Option Bool → Denied → Type 0
+Leaves done kept (Some true) Failed = done
+Leaves done kept (Some true) Memory = kept
+Leaves done kept (Some false) denied = kept
+Leaves done kept None denied = kept
 
 -- the clock went on by one tick, up to the last value of a 64-bit counter
 pub record Ticks (old new : Told) : Type 0 where

@@ -2,8 +2,13 @@ pub mod Told
 pub mod Calls
 pub mod ToldLaws
 pub mod Objects
+pub mod Pages
+pub mod Uploads
 pub mod Distinct
+pub mod Failing
+pub mod FirstPlaces
 pub mod Named
 pub mod Snaps
 pub mod OrderLaw
 pub mod Taken
+pub mod Faults

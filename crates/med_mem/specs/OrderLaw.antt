@@ -10,7 +10,7 @@ use Rattle.med_base.specs.Key.{key_cmp, key_eq}
 use Rattle.med_base.specs.KeyOrder.{key_total}
 use Rattle.med_outside.specs.Snapshot.{IsListed}
 use Rattle.med_mem.specs.Distinct.{without, distinct}
-use Rattle.med_mem.specs.Snaps.{order_of, snapshot_with}
+use Rattle.med_mem.specs.Snaps.{Parts, order_of, snapshot_with}
 
 -- the test is an equivalence
 key_laws : IsEquivalence key_eq
@@ -99,9 +99,8 @@ once (e ∷ es) q = go (key_eq q e.0) refl (once es q)
         ∙ ap (λ b. once_if (found b)) (sym is)
 
 -- the law
-pub listed_once_of : (files : List (FileKey × List ℕ)) (schema : List ℕ)
-    → IsListed (snapshot_with files schema)
-listed_once_of files schema q =
-    sym (is_count_by (count (key_eq q)) (key_eq q) refl (λ x xs. refl) (order_of files))
-    ∙ once files q
-    ∙ ap once_if (sym (get-from_entries key_total files q))
+pub listed_once_of : (p : Parts) → IsListed (snapshot_with p)
+listed_once_of p q =
+    sym (is_count_by (count (key_eq q)) (key_eq q) refl (λ x xs. refl) (order_of p.files))
+    ∙ once p.files q
+    ∙ ap once_if (sym (get-from_entries key_total p.files q))

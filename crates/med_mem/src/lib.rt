@@ -5,13 +5,21 @@
 //! Read `specs/Told.antt` and `specs/Snaps.antt` first.
 #![tactic(auto)]
 
+mod failing;
+mod faults;
 mod files;
+mod indexed;
+mod key;
 mod nodes;
 mod object;
+mod page;
+mod piece;
 mod sink;
 mod snapshot;
 mod store;
+mod upload;
 
+pub use faults::{MemFault, MemWhen};
 pub use files::MemFiles;
 pub use nodes::MemNodes;
 pub use object::MemObject;

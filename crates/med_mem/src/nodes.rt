@@ -1,12 +1,16 @@
 // Nodes in memory, with the snapshots that were added to them.
-ghost use Rattle.std.specs.Prelude.{◌≡◌, [], Some, None, IfOk, IfErr, OnOk, OnErr, ◌≤◌, ◌+◌, ◌-◌, ◌^◌, min};
-ghost use Rattle.med_outside.specs.declared.denied.Denied.TheVariants.{Memory};
+ghost use Rattle.std.specs.Prelude.{◌≡◌, ◌≤◌, [], Some, None, IfOk, OnOk, OnErr};
+ghost use Rattle.med_outside.specs.Causes.{HasCause};
 ghost use Rattle.med_outside.specs.Counts.{after_open, tagged, with_closed};
-ghost use Rattle.med_mem.specs.Snaps.{snapshot_of, snapshot_at, held_by, HasAdded, Keeps, KeepsOthers, is_for, first_for, given, given_as, given_for, shown};
+ghost use Rattle.med_outside.specs.World.{just_opened};
+ghost use Rattle.med_mem.specs.Failing.{FailsAsTold, unmade, with_step, after_call, with_faults};
+ghost use Rattle.med_mem.specs.Snaps.{snapshot_of, snapshot_with, or_nothing, HasAdded, Keeps, KeepsOthers, is_for, first_for, given, given_as, given_for, shown, snap_state, nodes_state, with_opens, with_snap_step};
 
-use crate::snapshot::{MemOpened, MemSnap};
+use crate::failing::FailingCalls;
+use crate::indexed::Indexed;
+use crate::snapshot::{MemOpened, MemSnap, copy_snap};
 use med_base::{Fqdn, NoMemory};
-use med_outside::{Denied, Nodes, OpenedFor};
+use med_outside::{Denied, Nodes, OpenSnapshots};
 use std::alloc::Global;
 use std::marker::Model;
 
@@ -19,22 +23,26 @@ pub(crate) struct Added {
     snap: MemSnap,
 }
 
-/// Nodes in memory. No call of them fails.
+/// Nodes in memory. A call of `open` fails exactly where `fail_at` says so.
 #[derive(Drop)]
 pub struct MemNodes {
     snaps: Vec<Added>,
-    faults: u64,
-    opened: u64,
-    closed: u64,
-    last: OpenedFor,
+    calls: FailingCalls,
+    snap_steps: Vec<u64>,
+    opened: OpenSnapshots,
 }
 
 impl Model for MemNodes {
-    ghost use Rattle.med_mem.specs.Snaps.{Known, known_by};
+    ghost use Rattle.med_mem.specs.Snaps.{Known, given};
 
     ghost Value = { Known };
 
-    ghost view = { λ m. known_by m.snaps.items m.faults m.opened m.closed m.last };
+    ghost view = { λ m. record {
+      given = given m.snaps.items;
+      calls = m.calls;
+      snap_steps = m.snap_steps.items;
+      counts = m.opened;
+    } };
 }
 
 impl MemNodes {
@@ -42,16 +50,16 @@ impl MemNodes {
     pub fn new(alloc: Global) -> MemNodes
         ensures { result ≡ record {
           given = [];
-          faults = 0;
-          counts = record { opened = 0; closed = 0; last = tagged [] [] [] };
+          calls = unmade [];
+          snap_steps = [];
+          counts = record { opened = 0; still_open = []; last = tagged [] [] [] };
         } }
     {
         MemNodes {
             snaps: Vec::new(alloc),
-            faults: 0,
-            opened: 0,
-            closed: 0,
-            last: OpenedFor::nothing(alloc),
+            calls: FailingCalls::none(alloc),
+            snap_steps: Vec::new(alloc),
+            opened: OpenSnapshots::none(alloc),
         }
     }
 
@@ -70,11 +78,31 @@ impl MemNodes {
         ensures before { Keeps self.old self.new }
         ensures elsewhere { KeepsOthers root.now node.now tag.now self.old self.new }
         ensures err { OnErr result (self.new ≡ self.old) }
-        ensures faults { self.new.faults ≡ self.old.faults }
+        ensures calls { self.new.calls ≡ self.old.calls }
+        ensures steps { self.new.snap_steps ≡ self.old.snap_steps }
         ensures counts { self.new.counts ≡ self.old.counts }
     {
         let added = new_added(alloc, root, node, tag, snap)?;
         self.snaps.push(added)?;
+        Ok(())
+    }
+
+    /// Lets the call of that number fail, counted from 1 over all calls of `open`. Behind the last
+    /// value of a number no call fails.
+    pub fn fail_at(&mut self, step: u64) -> Result<(), NoMemory>
+        ensures ok { OnOk result (self.new ≡ with_opens (with_step step self.old.calls) self.old) }
+        ensures err { OnErr result (self.new ≡ self.old) }
+    {
+        self.calls.fail_at(step)
+    }
+
+    /// Lets each snapshot that is opened from now on fail at its own call of that number, counted
+    /// from 1 over all its calls.
+    pub fn fail_snap_at(&mut self, step: u64) -> Result<(), NoMemory>
+        ensures ok { OnOk result (self.new ≡ with_snap_step step self.old) }
+        ensures err { OnErr result (self.new ≡ self.old) }
+    {
+        self.snap_steps.push(step)?;
         Ok(())
     }
 }
@@ -117,6 +145,23 @@ fn find_added<'a>(snaps: &'a [Added], root: &str, node: &str, tag: &str) -> Opti
     None
 }
 
+// A copy of the first that was added for the three, and an empty one where none was.
+fn copy_added(
+    alloc: Global,
+    snaps: &[Added],
+    root: &str,
+    node: &str,
+    tag: &str,
+) -> Result<Indexed, NoMemory>
+    ensures { IfOk result (λ s. snapshot_with s
+        ≡ or_nothing (first_for root.now node.now tag.now (given snaps.now))) }
+{
+    match find_added(snaps, root, node, tag) {
+        Some(snap) => Indexed::of(alloc, copy_snap(alloc, snap)?),
+        None => Ok(Indexed::nothing(alloc)),
+    }
+}
+
 impl Nodes for MemNodes {
     ghost use Rattle.med_mem.specs.Snaps.{nodes_state};
 
@@ -131,32 +176,34 @@ impl Nodes for MemNodes {
         node: &Fqdn,
         tag: &str,
     ) -> Result<MemOpened, Denied>
-        ensures held { IfOk result
-            (λ s. held_by s ≡ snapshot_at self.old root.now node.now tag.now) }
-        ensures fresh { IfOk result (λ snap. snap.faults ≡ 0) }
-        ensures same { self.new.given ≡ self.old.given }
-        ensures faults { self.new.faults ≡ self.old.faults }
+        ensures ok { IfOk result (λ s. snap_state s
+            ≡ just_opened (tagged root.now node.now tag.now) (nodes_state self.old).snaps) }
+        ensures steps { IfOk result (λ s. s.calls ≡ unmade self.old.snap_steps) }
+        ensures failed { FailsAsTold self.old.calls result }
+        ensures same { (self.new.given ≡ self.old.given)
+            × (self.new.snap_steps ≡ self.old.snap_steps) }
+        ensures calls { self.new.calls ≡ after_call self.old.calls }
         ensures counts { self.new.counts
             ≡ after_open result (tagged root.now node.now tag.now) self.old.counts }
-        ensures err { IfErr result (λ e. e ≡ Denied.Memory) }
+        ensures cause { HasCause self.old.calls.faults self.new.calls.faults result }
     {
-        let opened = OpenedFor::of(alloc, root, node.as_str(), tag)?;
-        let snap = match find_added(self.snaps.as_slice(), root, node.as_str(), tag) {
-            Some(snap) => MemOpened::of(alloc, snap)?,
-            None => MemOpened::empty(alloc),
-        };
-        self.opened = self.opened.saturating_add(1);
-        self.last = opened;
-        Ok(snap)
+        if self.calls.next_fails() {
+            return Err(Denied::Failed);
+        }
+        let held = copy_added(alloc, self.snaps.as_slice(), root, node.as_str(), tag)?;
+        let calls = FailingCalls::of(alloc, self.snap_steps.as_slice())?;
+        let of = self.opened.open(alloc, root, node.as_str(), tag)?;
+        Ok(MemOpened::new(held, calls, of))
     }
 
     fn close(&mut self, snap: MemOpened)
-        ensures same { self.new.given ≡ self.old.given }
-        ensures counts { self.new.counts ≡ with_closed self.old.counts }
-        ensures later { self.old.faults ≤ self.new.faults }
-        ensures faults { self.new.faults ≡ min (self.old.faults + snap.faults) (2 ^ 64 - 1) }
+        ensures same { (self.new.given ≡ self.old.given)
+            × (self.new.snap_steps ≡ self.old.snap_steps) }
+        ensures counts { self.new.counts ≡ with_closed snap.of self.old.counts }
+        ensures later { self.old.calls.faults ≤ self.new.calls.faults }
+        ensures faults { self.new.calls ≡ with_faults snap.calls.faults self.old.calls }
     {
-        self.faults = self.faults.saturating_add(snap.faults());
-        self.closed = self.closed.saturating_add(1);
+        self.calls.add_faults(snap.faults());
+        self.opened.close(snap.of());
     }
 }

@@ -1,17 +1,18 @@
 // A snapshot in memory.
-ghost use Rattle.std.specs.Prelude.{◌≡◌, [], Some, IsSome, IfOk, IfErr, map};
-ghost use Rattle.std.specs.List.{list_any};
-ghost use Rattle.std.specs.Map.{keys_of};
-ghost use Rattle.std.specs.FinMap.{find, get};
-ghost use Rattle.med_base.specs.Key.{key_cmp, key_eq};
+ghost use Rattle.std.specs.Prelude.{◌≡◌, Some, IfOk, map, option_map};
+ghost use Rattle.std.specs.FinMap.{get};
+ghost use Rattle.med_outside.specs.Causes.{HasCause};
+ghost use Rattle.med_outside.specs.Pieces.{piece_at, EndsInRange};
 ghost use Rattle.med_outside.specs.Snapshot.{key_of_raw, HasKey};
-ghost use Rattle.med_mem.specs.Snaps.{files_of, order_of, opened, held_by};
-ghost use Rattle.med_outside.specs.declared.denied.Denied.TheVariants.{Memory};
+ghost use Rattle.med_mem.specs.Failing.{FailsAsTold};
+ghost use Rattle.med_mem.specs.Snaps.{parts_of, files_of, order_of, held_by, asked};
 
+use crate::failing::FailingCalls;
+use crate::indexed::Indexed;
+use crate::key::copy_raw;
 use med_base::{FileKey, NoMemory};
-use med_outside::{Denied, RawKey, Snap};
+use med_outside::{Denied, OpenedFor, Piece, RawKey, Snap};
 use std::alloc::Global;
-use std::cmp::Ordering;
 use std::marker::Model;
 
 /// A file of a snapshot.
@@ -21,31 +22,22 @@ pub struct MemFile {
     pub bytes: Vec<u8>,
 }
 
-/// The files of a snapshot, and the text of its schema. Of two files with one key the first counts.
+/// The files of a snapshot, the text of its schema and that of its ring. Of two files with one key
+/// the first counts.
 #[derive(Drop)]
 pub struct MemSnap {
     pub files: Vec<MemFile>,
     pub schema: Vec<u8>,
+    pub ring: Vec<u8>,
 }
 
-/// A snapshot that was opened. No call of it fails.
+/// A snapshot that was opened. A call of it fails exactly where `fail_snap_at` of its nodes said so
+/// before it was opened.
 #[derive(Drop)]
 pub struct MemOpened {
-    snap: MemSnap,
-    faults: u64,
-}
-
-fn copy_key(alloc: Global, key: &RawKey) -> Result<RawKey, NoMemory>
-    ensures { IfOk result (λ copy. key_of_raw copy ≡ key_of_raw key.now) }
-{
-    let keyspace = String::from_str(alloc, key.keyspace.as_str())?;
-    let table = String::from_str(alloc, key.table.as_str())?;
-    let file = String::from_str(alloc, key.file.as_str())?;
-    Ok(RawKey {
-        keyspace,
-        table,
-        file,
-    })
+    held: Indexed,
+    calls: FailingCalls,
+    of: OpenedFor,
 }
 
 fn copy_files(alloc: Global, files: &[MemFile]) -> Result<Vec<MemFile>, NoMemory>
@@ -53,142 +45,114 @@ fn copy_files(alloc: Global, files: &[MemFile]) -> Result<Vec<MemFile>, NoMemory
 {
     let mut copy = Vec::new(alloc);
     for file in files {
-        let key = copy_key(alloc, &file.key)?;
+        let key = copy_raw(alloc, &file.key)?;
         let bytes = file.bytes.as_slice().to_vec(alloc)?;
         copy.push(MemFile { key, bytes })?;
     }
     Ok(copy)
 }
 
-fn compare(key: &FileKey, raw: &RawKey) -> Ordering
-    ensures { result ≡ key_cmp key.now (key_of_raw raw.now) }
+// The same snapshot again.
+pub(crate) fn copy_snap(alloc: Global, snap: &MemSnap) -> Result<MemSnap, NoMemory>
+    ensures { IfOk result (λ copy. parts_of copy ≡ parts_of snap.now) }
 {
-    let keyspace = key.keyspace.as_str().cmp(raw.keyspace.as_str());
-    let table = key.table.as_str().cmp(raw.table.as_str());
-    let file = key.file.as_str().cmp(raw.file.as_str());
-    keyspace.then(table.then(file))
-}
-
-fn is_same(a: &RawKey, b: &RawKey) -> bool
-    ensures { result ≡ key_eq (key_of_raw a.now) (key_of_raw b.now) }
-{
-    let keyspace = a.keyspace.as_str().cmp(b.keyspace.as_str());
-    let table = a.table.as_str().cmp(b.table.as_str());
-    let file = a.file.as_str().cmp(b.file.as_str());
-    keyspace.then(table.then(file)).is_eq()
-}
-
-fn has_key(files: &[MemFile], key: &RawKey) -> bool
-    ensures { result ≡ list_any (key_eq (key_of_raw key.now)) (keys_of (files_of files.now)) }
-{
-    for file in files {
-        if is_same(key, &file.key) {
-            return true;
-        }
-    }
-    false
-}
-
-// The keys without repeats, in the order of first occurrence.
-fn list_keys(alloc: Global, files: &[MemFile]) -> Result<Vec<RawKey>, NoMemory>
-    ensures { IfOk result (λ keys. map key_of_raw keys.items ≡ order_of (files_of files.now)) }
-{
-    let mut keys = Vec::new(alloc);
-    for (i, file) in files.iter().enumerate() {
-        if !has_key(&files[..i], &file.key) {
-            keys.push(copy_key(alloc, &file.key)?)?;
-        }
-    }
-    Ok(keys)
-}
-
-// The first file of the key.
-fn read_file(alloc: Global, files: &[MemFile], key: &FileKey) -> Result<Vec<u8>, NoMemory>
-    requires { IsSome (find key_cmp key.now (files_of files.now)) }
-    ensures { IfOk result (λ bytes. find key_cmp key.now (files_of files.now) ≡ Some bytes.items) }
-{
-    for file in files {
-        if compare(key, &file.key).is_eq() {
-            return Ok(file.bytes.as_slice().to_vec(alloc)?);
-        }
-    }
-    Ok(Vec::new(alloc))
+    let files = copy_files(alloc, snap.files.as_slice())?;
+    let schema = snap.schema.as_slice().to_vec(alloc)?;
+    let ring = snap.ring.as_slice().to_vec(alloc)?;
+    Ok(MemSnap {
+        files,
+        schema,
+        ring,
+    })
 }
 
 impl Model for MemOpened {
-    ghost use Rattle.med_mem.specs.Snaps.{Opened, opened};
+    ghost use Rattle.med_mem.specs.Snaps.{Opened};
 
     ghost Value = { Opened };
 
-    ghost view = { λ s. opened s.snap.files.items s.snap.schema.items s.faults };
+    ghost view = { λ s. record { parts = s.held; calls = s.calls; of = s.of } };
 }
 
 impl MemOpened {
-    /// A snapshot that holds the same.
-    pub(crate) fn of(alloc: Global, snap: &MemSnap) -> Result<MemOpened, NoMemory>
-        ensures { IfOk result (λ s. s ≡ opened snap.now.files.items snap.now.schema.items 0) }
+    pub(crate) fn new(held: Indexed, calls: FailingCalls, of: OpenedFor) -> MemOpened
+        ensures { result ≡ record { parts = held; calls = calls; of = of } }
     {
-        let files = copy_files(alloc, snap.files.as_slice())?;
-        let schema = snap.schema.as_slice().to_vec(alloc)?;
-        Ok(MemOpened {
-            snap: MemSnap { files, schema },
-            faults: 0,
-        })
+        MemOpened { held, calls, of }
     }
 
-    /// A snapshot without files.
-    pub(crate) fn empty(alloc: Global) -> MemOpened
-        ensures { result ≡ opened [] [] 0 }
+    // What it was opened for.
+    pub(crate) fn of(&self) -> &OpenedFor
+        ensures { result.now ≡ self.now.of }
     {
-        MemOpened {
-            snap: MemSnap {
-                files: Vec::new(alloc),
-                schema: Vec::new(alloc),
-            },
-            faults: 0,
-        }
+        &self.of
     }
 
     pub(crate) fn faults(&self) -> u64
-        ensures { result ≡ self.now.faults }
+        ensures { result ≡ self.now.calls.faults }
     {
-        self.faults
+        self.calls.faults()
     }
 }
 
 impl Snap for MemOpened {
-    ghost use Rattle.std.specs.Prelude.{Some};
-    ghost use Rattle.med_mem.specs.Snaps.{held_by};
+    ghost use Rattle.med_mem.specs.Snaps.{snap_state};
     ghost use Rattle.med_mem.specs.OrderLaw.{listed_once_of};
 
-    ghost held = { λ s. Some (held_by s) };
+    ghost state = { snap_state };
 
-    ghost faults = { λ s. s.faults };
-
-    ghost listed_once = { λ s. listed_once_of s.files s.schema };
+    ghost listed_once = { λ s. listed_once_of s.parts };
 
     fn keys(&mut self, alloc: Global) -> Result<Vec<RawKey>, Denied>
-        ensures keys { IfOk result (λ keys. map key_of_raw keys.items ≡ order_of self.old.files) }
-        ensures same { self.new ≡ self.old }
-        ensures err { IfErr result (λ e. e ≡ Denied.Memory) }
+        ensures keys { IfOk result
+            (λ keys. map key_of_raw keys.items ≡ order_of self.old.parts.files) }
+        ensures same { self.new ≡ asked self.old }
+        ensures failed { FailsAsTold self.old.calls result }
+        ensures cause { HasCause self.old.calls.faults self.new.calls.faults result }
     {
-        Ok(list_keys(alloc, self.snap.files.as_slice())?)
+        if self.calls.next_fails() {
+            return Err(Denied::Failed);
+        }
+        Ok(self.held.keys(alloc)?)
     }
 
-    fn read(&mut self, alloc: Global, key: &FileKey) -> Result<Vec<u8>, Denied>
+    fn read_piece(&mut self, alloc: Global, key: &FileKey, from: u64) -> Result<Piece, Denied>
         requires { HasKey key.now (held_by self.old) }
-        ensures bytes { IfOk result (λ b. get (held_by self.old).files key.now ≡ Some b.items) }
-        ensures same { self.new ≡ self.old }
-        ensures err { IfErr result (λ e. e ≡ Denied.Memory) }
+        ensures piece { IfOk result
+            (λ piece. Some piece
+            ≡ option_map (piece_at from) (get (held_by self.old).files key.now)) }
+        ensures range { IfOk result (EndsInRange from) }
+        ensures same { self.new ≡ asked self.old }
+        ensures failed { FailsAsTold self.old.calls result }
+        ensures cause { HasCause self.old.calls.faults self.new.calls.faults result }
     {
-        Ok(read_file(alloc, self.snap.files.as_slice(), key)?)
+        if self.calls.next_fails() {
+            return Err(Denied::Failed);
+        }
+        Ok(self.held.read_piece(alloc, key, from)?)
     }
 
     fn schema(&mut self, alloc: Global) -> Result<Vec<u8>, Denied>
-        ensures bytes { IfOk result (λ bytes. bytes.items ≡ self.old.schema) }
-        ensures same { self.new ≡ self.old }
-        ensures err { IfErr result (λ e. e ≡ Denied.Memory) }
+        ensures bytes { IfOk result (λ bytes. bytes.items ≡ self.old.parts.schema) }
+        ensures same { self.new ≡ asked self.old }
+        ensures failed { FailsAsTold self.old.calls result }
+        ensures cause { HasCause self.old.calls.faults self.new.calls.faults result }
     {
-        Ok(self.snap.schema.as_slice().to_vec(alloc)?)
+        if self.calls.next_fails() {
+            return Err(Denied::Failed);
+        }
+        Ok(self.held.schema().to_vec(alloc)?)
+    }
+
+    fn ring(&mut self, alloc: Global) -> Result<Vec<u8>, Denied>
+        ensures bytes { IfOk result (λ bytes. bytes.items ≡ self.old.parts.ring) }
+        ensures same { self.new ≡ asked self.old }
+        ensures failed { FailsAsTold self.old.calls result }
+        ensures cause { HasCause self.old.calls.faults self.new.calls.faults result }
+    {
+        if self.calls.next_fails() {
+            return Err(Denied::Failed);
+        }
+        Ok(self.held.ring().to_vec(alloc)?)
     }
 }

@@ -1,5 +1,5 @@
--- Which snapshots of nodes were opened, and how many of them were closed again.
-use Rattle.std.specs.Prelude.{ℕ, List, Result, Ok, Err}
+-- Which snapshots of nodes are open, and how many were opened.
+use Rattle.std.specs.Prelude.{ℕ, Bool, ◌&&◌, List, [], ◌∷◌, bytes_eq, if◌then◌else◌, Result, Ok, Err}
 use Rattle.med_outside.specs.Causes.{one_more}
 use Rattle.med_outside.specs.declared.denied.Denied.{Denied}
 
@@ -9,29 +9,38 @@ pub record Tagged : Type 0 where
   pub node : List ℕ
   pub tag : List ℕ
 
--- both numbers are held at the last value of a 64-bit counter
 pub record SnapshotCounts : Type 0 where
+  -- how many were opened, held at the last value of a 64-bit counter
   pub opened : ℕ
-  pub closed : ℕ
+  -- those that are open, the last one first
+  pub still_open : List Tagged
   -- what was opened last; three empty texts where nothing was opened yet
   pub last : Tagged
 
 abbrev pub tagged : (root node tag : List ℕ) → Tagged
 tagged root node tag = record { root = root; node = node; tag = tag }
 
+abbrev pub is_same : Tagged → Tagged → Bool
+is_same a b = (bytes_eq a.root b.root && bytes_eq a.node b.node) && bytes_eq a.tag b.tag
+
+-- the list without the first that is this one
+abbrev pub without_first : Tagged → List Tagged → List Tagged
+without_first of [] = []
+without_first of (t ∷ ts) = if is_same of t then ts else t ∷ without_first of ts
+
 -- one more was opened, for this
 abbrev pub with_opened : Tagged → SnapshotCounts → SnapshotCounts
 with_opened of counts = record {
   opened = one_more counts.opened;
-  closed = counts.closed;
+  still_open = of ∷ counts.still_open;
   last = of;
 }
 
--- one more was closed
-abbrev pub with_closed : SnapshotCounts → SnapshotCounts
-with_closed counts = record {
+-- one that was opened for this was closed; it changes nothing where none of these is open
+abbrev pub with_closed : Tagged → SnapshotCounts → SnapshotCounts
+with_closed of counts = record {
   opened = counts.opened;
-  closed = one_more counts.closed;
+  still_open = without_first of counts.still_open;
   last = counts.last;
 }
 
@@ -42,4 +51,8 @@ after_open (Err denied) of counts = counts
 
 -- this one snapshot was opened, and closed again
 abbrev pub opened_once : Tagged → SnapshotCounts → SnapshotCounts
-opened_once of counts = with_closed (with_opened of counts)
+opened_once of counts = record {
+  opened = one_more counts.opened;
+  still_open = counts.still_open;
+  last = of;
+}

@@ -2,6 +2,9 @@ pub mod Causes
 pub mod Counts
 pub mod Effects
 pub mod Ends
+pub mod OpenPlaces
+pub mod Pages
+pub mod Pieces
 pub mod Sink
 pub mod Snapshot
 pub mod State

@@ -1,9 +1,12 @@
 -- What the calls of a storage answer and leave.
-use Rattle.std.specs.Prelude.{◌≡◌, ◌⊎◌, ℕ, List, [], ◌∷◌, map, length, Option, IfSome}
+use Rattle.std.specs.Prelude.{◌≡◌, ◌⊎◌, ℕ, List, [], ◌∷◌, map, length, Option, option_map, IfSome}
+use Rattle.std.specs.FinMap.{get}
 use Rattle.med_base.specs.Content.{Content, Object, objects_under}
-use Rattle.med_outside.specs.Effects.{Stores}
-use Rattle.med_outside.specs.State.{State, ChangesWithin, OnlyReads, History}
+use Rattle.med_base.specs.Fingerprint.{fingerprint_of}
+use Rattle.med_outside.specs.Effects.{Stores, Removes}
+use Rattle.med_outside.specs.State.{State, ChangesOnce, History}
 use Rattle.med_outside.specs.declared.storage.Entry.{Entry}
+use Rattle.med_outside.specs.declared.storage.Stat.{Stat}
 
 -- a number is what is told
 abbrev pub IsToldAs : Option ℕ → ℕ → Type 0
@@ -17,15 +20,36 @@ entry_of e = record { path = e.0; size = length e.1.bytes; second = e.1.second }
 abbrev pub listing : List ℕ → Content → List Entry
 listing text c = map entry_of (objects_under text c)
 
--- the object was stored, with the second that was told
-pub record Put (path bytes : List ℕ) (old new : State) (stood_before stood_after : History)
-    (at : ℕ) : Type 0 where
-  pub moves : ChangesWithin (Stores path bytes at ∷ []) old new stood_before stood_after
-  pub second : IsToldAs old.second at
+-- what a look at an object tells
+abbrev pub stat_of : Object → Stat
+stat_of o = record { fingerprint = fingerprint_of o.bytes; second = o.second }
+
+abbrev pub AnswersStat : List ℕ → Option Content → Option Stat → Type 0
+AnswersStat path told answer = IfSome told (λ c. answer ≡ option_map stat_of (get c path))
+
+abbrev pub AnswersBytes : List ℕ → Option Content → Option (List ℕ) → Type 0
+AnswersBytes path told answer =
+    IfSome told (λ c. answer ≡ option_map (λ (o : Object). o.bytes) (get c path))
+
+-- the object was stored with this second
+abbrev pub Put : (path bytes : List ℕ) → (old new : State) → (stood_before stood_after : History)
+    → ℕ → Type 0
+Put path bytes old new stood_before stood_after at =
+    ChangesOnce (Stores path bytes at ∷ []) old new stood_before stood_after
 
 -- after a failure: nothing changed, or the object was stored
 abbrev pub MayPut : List ℕ → List ℕ → (old new : State) → (stood_before stood_after : History)
     → Type 0
 MayPut path bytes old new stood_before stood_after =
-    OnlyReads old new stood_before stood_after ⊎ ((at : ℕ) × Put path bytes old new stood_before
-    stood_after at)
+    ChangesOnce [] old new stood_before stood_after
+    ⊎ ((at : ℕ) × Put path bytes old new stood_before stood_after at)
+
+-- the object was removed, if there was one
+abbrev pub Delete : List ℕ → (old new : State) → (stood_before stood_after : History) → Type 0
+Delete path old new stood_before stood_after =
+    ChangesOnce (Removes path ∷ []) old new stood_before stood_after
+
+-- after a failure: nothing changed, or the object was removed
+abbrev pub MayDelete : List ℕ → (old new : State) → (stood_before stood_after : History) → Type 0
+MayDelete path old new stood_before stood_after =
+    ChangesOnce [] old new stood_before stood_after ⊎ Delete path old new stood_before stood_after

@@ -1,9 +1,9 @@
 -- What a command meets outside, as one record: files, nodes, a storage, and the output.
 use Rattle.std.specs.Prelude.{◌≡◌, ◌≤◌, ℕ, List, Option}
 use Rattle.med_outside.specs.Causes.{RoseOrFull}
-use Rattle.med_outside.specs.Counts.{SnapshotCounts}
+use Rattle.med_outside.specs.Counts.{SnapshotCounts, Tagged}
 use Rattle.med_outside.specs.Ends.{Device, Files, Nodes, Storage, Output, Memory}
-use Rattle.med_outside.specs.Snapshot.{Snapshot}
+use Rattle.med_outside.specs.Snapshot.{Snapshot, SnapState}
 use Rattle.med_outside.specs.State.{State, History}
 
 -- what files tell of each name: the bytes, or that there is no such file
@@ -18,6 +18,14 @@ pub record FilesState : Type 0 where
 -- the snapshot of a node with a tag under a root, where it is told
 abbrev pub Snapshots : Type 0
 Snapshots = List ℕ → List ℕ → List ℕ → Option Snapshot
+
+-- a snapshot that was opened now, and of which no call was made
+abbrev pub just_opened : Tagged → Snapshots → SnapState
+just_opened of snaps = record {
+  held = snaps of.root of.node of.tag;
+  faults = 0;
+  of = of;
+}
 
 pub record NodesState : Type 0 where
   pub snaps : Snapshots

@@ -11,6 +11,7 @@ mod files;
 mod mode;
 mod nodes;
 mod opened;
+mod piece;
 mod sink;
 mod storage;
 
@@ -18,6 +19,7 @@ pub use denied::Denied;
 pub use files::Files;
 pub use mode::Mode;
 pub use nodes::{Nodes, RawKey, Snap};
-pub use opened::OpenedFor;
+pub use opened::{OpenSnapshots, OpenedFor};
+pub use piece::{PIECE, Piece};
 pub use sink::{Sink, SinkFailed};
-pub use storage::{Entry, Stat, Storage};
+pub use storage::{Entry, Page, PageEnd, Stat, Storage};

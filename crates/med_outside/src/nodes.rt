@@ -1,12 +1,13 @@
 // The nodes, and the snapshots that they open.
-ghost use Rattle.std.specs.Prelude.{◌≡◌, ◌≤◌, ◌+◌, ◌-◌, ◌^◌, ℕ, Option, Some, IfOk, IfSome, map, min};
+ghost use Rattle.std.specs.Prelude.{◌≡◌, ◌≤◌, ◌+◌, ◌-◌, ◌^◌, Some, IfOk, IfSome, map, min, option_map};
 ghost use Rattle.std.specs.FinMap as finite;
 ghost use Rattle.med_outside.specs.Causes.{HasCause};
 ghost use Rattle.med_outside.specs.Counts.{after_open, tagged, with_closed};
-ghost use Rattle.med_outside.specs.Snapshot.{Snapshot, key_of_raw, HasKey, IsListed};
-ghost use Rattle.med_outside.specs.World.{NodesState};
+ghost use Rattle.med_outside.specs.Pieces.{EndsInRange, piece_at};
+ghost use Rattle.med_outside.specs.Snapshot.{SnapState, StaysOpen, key_of_raw, HasKey, IsListed};
+ghost use Rattle.med_outside.specs.World.{NodesState, just_opened};
 
-use crate::Denied;
+use crate::{Denied, Piece};
 use med_base::{FileKey, Fqdn};
 use std::alloc::Global;
 
@@ -18,46 +19,53 @@ pub struct RawKey {
     pub file: String,
 }
 
-/// The files of a node under one snapshot tag, and the schema of the node. No call changes what it
-/// holds.
+/// The files of a node under one snapshot tag, and the schema and the ring of the node. No call
+/// changes what it holds.
 pub trait Snap: Drop {
-    /// What it holds, where it tells.
-    ghost held: { Self → Option Snapshot };
-
-    /// How often a call failed.
-    ghost faults: { Self → ℕ };
+    /// What it holds, where it tells; how often a call failed; and what it was opened for.
+    ghost state: { Self → SnapState };
 
     /// The keys of all files without repeats, in the order that the snapshot tells.
     fn keys(&mut self, alloc: Global) -> Result<Vec<RawKey>, Denied>
         ensures keys { IfOk result
-            (λ keys. IfSome (held self.old) (λ s. map key_of_raw keys.items ≡ s.order)) }
-        ensures same { held self.new ≡ held self.old }
-        ensures cause { HasCause (faults self.old) (faults self.new) result };
+            (λ keys. IfSome (state self.old).held (λ s. map key_of_raw keys.items ≡ s.order)) }
+        ensures same { StaysOpen (state self.old) (state self.new) }
+        ensures cause { HasCause (state self.old).faults (state self.new).faults result };
 
-    /// The bytes of a file, whose key must be one of the snapshot's.
-    fn read(&mut self, alloc: Global, key: &FileKey) -> Result<Vec<u8>, Denied>
-        requires { IfSome (held self.old) (HasKey key.now) }
-        ensures bytes { IfOk result
-            (λ bytes. IfSome (held self.old) (λ s. finite.get s.files key.now ≡ Some bytes.items)) }
-        ensures same { held self.new ≡ held self.old }
-        ensures cause { HasCause (faults self.old) (faults self.new) result };
+    /// The bytes of a file from a place on, as many as there are up to a piece. Its key must be one
+    /// of the snapshot's. A file ends at the first piece that isn't full.
+    fn read_piece(&mut self, alloc: Global, key: &FileKey, from: u64) -> Result<Piece, Denied>
+        requires { IfSome (state self.old).held (HasKey key.now) }
+        ensures piece { IfOk result
+            (λ piece. IfSome (state self.old).held
+            (λ s. Some piece ≡ option_map (piece_at from) (finite.get s.files key.now))) }
+        ensures range { IfOk result (EndsInRange from) }
+        ensures same { StaysOpen (state self.old) (state self.new) }
+        ensures cause { HasCause (state self.old).faults (state self.new).faults result };
 
     /// The text of the schema.
     fn schema(&mut self, alloc: Global) -> Result<Vec<u8>, Denied>
         ensures bytes { IfOk result
-            (λ bytes. IfSome (held self.old) (λ s. bytes.items ≡ s.schema)) }
-        ensures same { held self.new ≡ held self.old }
-        ensures cause { HasCause (faults self.old) (faults self.new) result };
+            (λ bytes. IfSome (state self.old).held (λ s. bytes.items ≡ s.schema)) }
+        ensures same { StaysOpen (state self.old) (state self.new) }
+        ensures cause { HasCause (state self.old).faults (state self.new).faults result };
+
+    /// The text of the ring.
+    fn ring(&mut self, alloc: Global) -> Result<Vec<u8>, Denied>
+        ensures bytes { IfOk result
+            (λ bytes. IfSome (state self.old).held (λ s. bytes.items ≡ s.ring)) }
+        ensures same { StaysOpen (state self.old) (state self.new) }
+        ensures cause { HasCause (state self.old).faults (state self.new).faults result };
 
     /// What it tells of its order is a list of its keys, each once.
-    ghost listed_once: { (snap : Self) → IfSome (held snap) IsListed };
+    ghost listed_once: { (snap : Self) → IfSome (state snap).held IsListed };
 }
 
 pub trait Nodes {
     type Snap: Snap;
 
     /// The snapshots, where it tells; how often a call failed, of the snapshots that were closed
-    /// too; and which snapshots were opened and closed.
+    /// too; which snapshots are open, and how many were opened.
     ghost state: { Self → NodesState };
 
     /// The snapshot of the node with the tag. It has no keys where there is none. It changes
@@ -69,9 +77,9 @@ pub trait Nodes {
         node: &Fqdn,
         tag: &str,
     ) -> Result<Self::Snap, Denied>
-        ensures held { IfOk result
-            (λ snap. Self.Snap.held snap ≡ (state self.old).snaps root.now node.now tag.now) }
-        ensures fresh { IfOk result (λ snap. Self.Snap.faults snap ≡ 0) }
+        ensures ok { IfOk result
+            (λ snap. Self.Snap.state snap
+            ≡ just_opened (tagged root.now node.now tag.now) (state self.old).snaps) }
         ensures same { (state self.new).snaps ≡ (state self.old).snaps }
         ensures counts { (state self.new).counts
             ≡ after_open result (tagged root.now node.now tag.now) (state self.old).counts }
@@ -81,9 +89,10 @@ pub trait Nodes {
     /// memory and is never refused.
     fn close(&mut self, snap: Self::Snap)
         ensures same { (state self.new).snaps ≡ (state self.old).snaps }
-        ensures counts { (state self.new).counts ≡ with_closed (state self.old).counts }
+        ensures counts { (state self.new).counts
+            ≡ with_closed (Self.Snap.state snap).of (state self.old).counts }
         ensures later { (state self.old).faults ≤ (state self.new).faults }
         ensures faults { (state self.new).faults
-            ≡ min ((state self.old).faults + Self.Snap.faults snap)
+            ≡ min ((state self.old).faults + (Self.Snap.state snap).faults)
             (2 ^ 64 - 1) };
 }

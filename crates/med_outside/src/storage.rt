@@ -1,13 +1,14 @@
 // A bucket of objects.
-ghost use Rattle.std.specs.Prelude.{◌≡◌, ◌≤◌, ℕ, [], Some, IfOk, IfSome, OnOk, OnErr, IsErrOf};
+ghost use Rattle.std.specs.Prelude.{◌≡◌, ◌≤◌, ℕ, [], Some, None, is_some, IsTrue, IfOk, IfSome, OnOk, OnErr, IsErrOf, option_map};
 ghost use Rattle.med_base.specs.Content.{Content};
 ghost use Rattle.med_outside.specs.declared.denied.Denied.TheVariants.{Failed, Memory};
-ghost use Rattle.med_outside.specs.Causes.{HasCause};
-ghost use Rattle.med_outside.specs.State.{State, ChangesWithin, OnlyReads, opened};
-ghost use Rattle.med_outside.specs.Storage.{IsToldAs, Put, MayPut, listing};
+ghost use Rattle.med_outside.specs.State.{State, History, ChangesOnce, OnlyReads, IsCalled, IsAtRest, MayChange, opened, with_room};
+ghost use Rattle.med_outside.specs.Pages.{CountsDown, CountsRight, IsPage, shown};
+ghost use Rattle.med_outside.specs.Pieces.{AnswersPiece, EndsInRange, begun, with_piece, with_upload};
+ghost use Rattle.med_outside.specs.Storage.{IsToldAs, AnswersStat, AnswersBytes, Put, MayPut, Delete, MayDelete};
 
-use crate::Denied;
-use med_base::{Fingerprint, Layout, ObjPath};
+use crate::{Denied, Piece};
+use med_base::{Fingerprint, Layout, NoMemory, ObjPath};
 use std::alloc::Global;
 
 /// What a look at an object answers. Seconds are whole ones since 1970-01-01T00:00:00Z.
@@ -25,12 +26,29 @@ pub struct Entry {
     pub second: u64,
 }
 
+/// Where a page ends that isn't the last one.
+#[derive(Debug, Drop)]
+pub struct PageEnd {
+    /// The last path of the page.
+    pub path: ObjPath,
+    /// How many entries are left. It isn't 0.
+    pub left: u64,
+}
+
+/// Some entries of a listing in a row.
+#[derive(Debug, Drop)]
+pub struct Page {
+    pub entries: Vec<Entry>,
+    /// `None` where no entry is left.
+    pub end: Option<PageEnd>,
+}
+
 pub trait Storage: Sized {
     /// What it means, but for the contents that stood.
     ghost state: { Self → State };
 
-    /// What it held at some moment since that step.
-    ghost stood_since: { Self → ℕ → Content → Type 0 };
+    /// What it held at some moment from one step to another.
+    ghost stood: { Self → History };
 
     /// Makes the bucket of the name below the base ready, under a layout. It changes no content.
     /// After a refusal what was open before is open still.
@@ -41,51 +59,167 @@ pub trait Storage: Sized {
         bucket: &str,
         prefix: &Layout,
     ) -> Result<(), Denied>
+        requires { IsAtRest (state self.old) }
         ensures ok { OnOk result
-            (ChangesWithin [] (opened base.now bucket.now prefix.now (state self.old)) (state self.new)
-            (stood_since self.old) (stood_since self.new)) }
+            (OnlyReads (opened base.now bucket.now prefix.now (state self.old)) (state self.new)
+            (stood self.old) (stood self.new)) }
         ensures err { OnErr result
-            (ChangesWithin [] (state self.old) (state self.new) (stood_since self.old)
-            (stood_since self.new)) }
-        ensures second { (state self.new).second ≡ (state self.old).second }
-        ensures cause { HasCause (state self.old).faults (state self.new).faults result };
+            (OnlyReads (state self.old) (state self.new) (stood self.old) (stood self.new)) }
+        ensures called { IsCalled (state self.old) (state self.new) result };
 
     /// The present second. It takes no memory.
     fn now(&mut self) -> u64
         ensures value { IsToldAs (state self.old).second result }
         ensures same { state self.new ≡ state self.old }
-        ensures looks { OnlyReads (state self.old) (state self.new) (stood_since self.old)
-            (stood_since self.new) };
+        ensures looks { OnlyReads (state self.old) (state self.new) (stood self.old)
+            (stood self.new) };
+
+    /// The fingerprint and the second of the object, and `None` exactly where no object has the
+    /// path.
+    fn stat(&mut self, alloc: Global, path: &ObjPath) -> Result<Option<Stat>, Denied>
+        ensures answer { IfOk result (AnswersStat path.now (state self.old).content) }
+        ensures looks { OnlyReads (state self.old) (state self.new) (stood self.old)
+            (stood self.new) }
+        ensures called { IsCalled (state self.old) (state self.new) result };
+
+    /// The bytes of the object, and `None` exactly where no object has the path.
+    fn get(&mut self, alloc: Global, path: &ObjPath) -> Result<Option<Vec<u8>>, Denied>
+        ensures answer { IfOk result
+            (λ found. AnswersBytes path.now (state self.old).content
+            (option_map (λ bytes. bytes.items) found)) }
+        ensures looks { OnlyReads (state self.old) (state self.new) (stood self.old)
+            (stood self.new) }
+        ensures called { IsCalled (state self.old) (state self.new) result };
 
     /// Stores the bytes under the path, in place of an object that was there, with the second that
     /// `now` gives, and answers that second. After `Failed` the object was stored or it wasn't;
     /// after `Memory` it wasn't.
     fn put(&mut self, alloc: Global, path: &ObjPath, bytes: &[u8]) -> Result<u64, Denied>
+        requires { MayChange path.now (state self.old).terms }
         ensures ok { IfOk result
-            (Put path.now bytes.now (state self.old) (state self.new) (stood_since self.old)
-            (stood_since self.new)) }
+            (Put path.now bytes.now (state self.old) (state self.new) (stood self.old)
+            (stood self.new)) }
         ensures failed { IsErrOf result Denied.Failed
-            → MayPut path.now bytes.now (state self.old) (state self.new) (stood_since self.old)
-            (stood_since self.new) }
+            → MayPut path.now bytes.now (state self.old) (state self.new) (stood self.old)
+            (stood self.new) }
         ensures memory { IsErrOf result Denied.Memory
-            → OnlyReads (state self.old) (state self.new) (stood_since self.old)
-            (stood_since self.new) }
-        ensures cause { HasCause (state self.old).faults (state self.new).faults result };
+            → ChangesOnce [] (state self.old) (state self.new) (stood self.old) (stood self.new) }
+        ensures called { IsCalled (state self.old) (state self.new) result };
 
-    /// The objects whose path begins with a text, in byte order of their paths.
-    fn list(&mut self, alloc: Global, under: &str) -> Result<Vec<Entry>, Denied>
-        ensures entries { IfOk result
-            (λ entries. IfSome (state self.old).content
-            (λ c. entries.items ≡ listing under.now c)) }
-        ensures looks { OnlyReads (state self.old) (state self.new) (stood_since self.old)
-            (stood_since self.new) }
-        ensures cause { HasCause (state self.old).faults (state self.new).faults result };
+    /// Removes the object. It is fine where no object has the path. After `Failed` the object was
+    /// removed or it wasn't; after `Memory`, which comes only where there is no room or none is
+    /// told, it wasn't.
+    fn delete(&mut self, alloc: Global, path: &ObjPath) -> Result<(), Denied>
+        requires { MayChange path.now (state self.old).terms }
+        ensures ok { OnOk result
+            (Delete path.now (state self.old) (state self.new) (stood self.old)
+            (stood self.new)) }
+        ensures failed { IsErrOf result Denied.Failed
+            → MayDelete path.now (state self.old) (state self.new) (stood self.old)
+            (stood self.new) }
+        ensures memory { IsErrOf result Denied.Memory
+            → ChangesOnce [] (state self.old) (state self.new) (stood self.old) (stood self.new) }
+        ensures full { IsErrOf result Denied.Memory
+            → IfSome (state self.old).room (λ room. room ≡ 0) }
+        ensures called { IsCalled (state self.old) (state self.new) result };
 
-    /// What it holds now is one of what it held since an earlier step.
-    ghost counts_now: { (store : Self) (t : ℕ) (c : Content) → t ≤ (state store).step
-        → (state store).content ≡ Some c → stood_since store t c };
+    /// The next objects whose path begins with a text, in byte order of their paths: the first
+    /// 1,000, or all where there are no more, of those behind the end of a page.
+    fn list_page(
+        &mut self,
+        alloc: Global,
+        under: &str,
+        after: Option<&PageEnd>,
+    ) -> Result<Page, Denied>
+        requires { CountsRight under.now (shown after) (state self.old).content }
+        ensures page { IfOk result
+            (λ page. IfSome (state self.old).content
+            (λ c. IsPage under.now (shown after.entry) c page)) }
+        ensures counts { IfOk result (CountsDown (shown after.entry)) }
+        ensures looks { OnlyReads (state self.old) (state self.new) (stood self.old)
+            (stood self.new) }
+        ensures called { IsCalled (state self.old) (state self.new) result };
 
-    /// Since the present step it held nothing else.
-    ghost only_now: { (store : Self) (c : Content) → stood_since store (state store).step c
-        → (state store).content ≡ Some c };
+    /// Takes memory for so many changes, where that is told.
+    fn make_room(&mut self, alloc: Global, changes: u64) -> Result<(), NoMemory>
+        ensures ok { OnOk result (IfSome (state self.new).room (λ room. changes ≤ room)) }
+        ensures told { is_some (state self.new).room ≡ is_some (state self.old).room }
+        ensures same { state self.new ≡ with_room (state self.new).room (state self.old) }
+        ensures looks { OnlyReads (with_room (state self.new).room (state self.old))
+            (state self.new) (stood self.old) (stood self.new) };
+
+    /// The bytes of the object from a place on, as many as there are up to a piece, and `None`
+    /// exactly where no object has the path.
+    fn get_piece(
+        &mut self,
+        alloc: Global,
+        path: &ObjPath,
+        from: u64,
+    ) -> Result<Option<Piece>, Denied>
+        ensures answer { IfOk result (AnswersPiece path.now from (state self.old).content) }
+        ensures range { IfOk result (λ found. IfSome found (EndsInRange from)) }
+        ensures looks { OnlyReads (state self.old) (state self.new) (stood self.old)
+            (stood self.new) }
+        ensures called { IsCalled (state self.old) (state self.new) result };
+
+    /// Begins to store an object under the path. It changes no content. After a refusal there is no
+    /// upload.
+    fn begin(&mut self, alloc: Global, path: &ObjPath) -> Result<(), Denied>
+        requires free { MayChange path.now (state self.old).terms }
+        requires none { (state self.old).upload ≡ None }
+        ensures ok { OnOk result
+            (OnlyReads (with_upload (Some (begun path.now)) (state self.old)) (state self.new)
+            (stood self.old) (stood self.new)) }
+        ensures err { OnErr result
+            (OnlyReads (state self.old) (state self.new) (stood self.old) (stood self.new)) }
+        ensures called { IsCalled (state self.old) (state self.new) result };
+
+    /// Adds a piece to the upload. It changes no content. After a refusal there is no upload.
+    fn append(&mut self, alloc: Global, piece: &Piece) -> Result<(), Denied>
+        requires { IsTrue (is_some (state self.old).upload) }
+        ensures ok { OnOk result
+            (OnlyReads (with_upload (with_piece piece.now (state self.old).upload)
+            (state self.old)) (state self.new) (stood self.old) (stood self.new)) }
+        ensures err { OnErr result
+            (OnlyReads (with_upload None (state self.old)) (state self.new) (stood self.old)
+            (stood self.new)) }
+        ensures called { IsCalled (state self.old) (state self.new) result };
+
+    /// Stores what was uploaded, as `put` does, and ends the upload, whatever it answers.
+    fn commit(&mut self, alloc: Global) -> Result<u64, Denied>
+        requires { IsTrue (is_some (state self.old).upload) }
+        ensures ok { IfOk result
+            (λ at. IfSome (state self.old).upload
+            (λ u. Put u.path u.bytes (with_upload None (state self.old)) (state self.new)
+            (stood self.old) (stood self.new) at)) }
+        ensures failed { IsErrOf result Denied.Failed
+            → IfSome (state self.old).upload
+            (λ u. MayPut u.path u.bytes (with_upload None (state self.old)) (state self.new)
+            (stood self.old) (stood self.new)) }
+        ensures memory { IsErrOf result Denied.Memory
+            → ChangesOnce [] (with_upload None (state self.old)) (state self.new) (stood self.old)
+            (stood self.new) }
+        ensures called { IsCalled (state self.old) (state self.new) result };
+
+    /// Ends the upload, if there is one. It takes no memory.
+    fn drop_upload(&mut self)
+        ensures same { state self.new ≡ with_upload None (state self.old) }
+        ensures looks { OnlyReads (with_upload None (state self.old)) (state self.new)
+            (stood self.old) (stood self.new) };
+
+    /// What it holds now is one of what it held up to now.
+    ghost counts_now: { (store : Self) (from : ℕ) (c : Content) → from ≤ (state store).step
+        → (state store).content ≡ Some c → stood store from (state store).step c };
+
+    /// At the present step it holds nothing else.
+    ghost only_now: { (store : Self) (c : Content)
+        → stood store (state store).step (state store).step c → (state store).content ≡ Some c };
+
+    /// What stood stood in a longer time too.
+    ghost widens: { (store : Self) (earlier from to later : ℕ) (c : Content) → earlier ≤ from
+        → to ≤ later → stood store from to c → stood store earlier later c };
+
+    /// Where the objects are told, the second is told.
+    ghost told: { (store : Self) (c : Content) → (state store).content ≡ Some c
+        → IsTrue (is_some (state store).second) };
 }

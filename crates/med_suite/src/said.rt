@@ -124,7 +124,12 @@ fn snapshot(alloc: Global, names: &[&str]) -> Result<MemSnap, NoMemory> {
         files.push(file(alloc, name)?)?;
     }
     let schema = b"-- s\n".to_vec(alloc)?;
-    Ok(MemSnap { files, schema })
+    let ring = Vec::new(alloc);
+    Ok(MemSnap {
+        files,
+        schema,
+        ring,
+    })
 }
 
 // The node of a scene, with its snapshot for the backup b1, whose files have the bytes `abc`.

@@ -1,6 +1,8 @@
-// The calls of a storage, as rows have them.
-use med_base::{Layout, ObjPath};
-use med_outside::{Denied, Entry, Storage};
+// The calls of a storage, as rows have them. It is at rest before and after each.
+ghost use Rattle.med_outside.specs.State.{IsAtRest};
+
+use med_base::{Fingerprint, Layout, ObjPath};
+use med_outside::{Denied, Entry, Stat, Storage};
 use std::alloc::Global;
 
 // How a row names a refusal.
@@ -21,25 +23,118 @@ pub(crate) fn put<S: Storage>(
     store: &mut S,
     path: &str,
     text: &str,
-) -> Result<u64, Denied> {
+) -> Result<u64, Denied>
+    requires { IsAtRest (S.state store.old) }
+    ensures { IsAtRest (S.state store.new) }
+{
     let path = ObjPath::of(alloc, path)?;
     store.put(alloc, &path, text.as_bytes())
 }
 
+fn get<S: Storage>(alloc: Global, store: &mut S, path: &str) -> Result<Option<Vec<u8>>, Denied>
+    requires { IsAtRest (S.state store.old) }
+    ensures { IsAtRest (S.state store.new) }
+{
+    let path = ObjPath::of(alloc, path)?;
+    store.get(alloc, &path)
+}
+
+fn stat<S: Storage>(alloc: Global, store: &mut S, path: &str) -> Result<Option<Stat>, Denied>
+    requires { IsAtRest (S.state store.old) }
+    ensures { IsAtRest (S.state store.new) }
+{
+    let path = ObjPath::of(alloc, path)?;
+    store.stat(alloc, &path)
+}
+
+fn delete<S: Storage>(alloc: Global, store: &mut S, path: &str) -> Result<(), Denied>
+    requires { IsAtRest (S.state store.old) }
+    ensures { IsAtRest (S.state store.new) }
+{
+    let path = ObjPath::of(alloc, path)?;
+    store.delete(alloc, &path)
+}
+
+// The first page of a listing, which is all of it where there are at most 1,000 entries.
+pub(crate) fn list<S: Storage>(
+    alloc: Global,
+    store: &mut S,
+    under: &str,
+) -> Result<Vec<Entry>, Denied>
+    requires { IsAtRest (S.state store.old) }
+    ensures { IsAtRest (S.state store.new) }
+{
+    let page = store.list_page(alloc, under, None)?;
+    Ok(page.entries)
+}
+
+fn open<S: Storage>(alloc: Global, store: &mut S, base: &str, bucket: &str) -> Result<(), Denied>
+    requires { IsAtRest (S.state store.old) }
+    ensures { IsAtRest (S.state store.new) }
+{
+    store.open(alloc, base, bucket, &Layout::plain(alloc))
+}
+
 // Whether one entry is listed under the path, with that second.
-fn is_dated<S: Storage>(alloc: Global, store: &mut S, path: &str, second: u64) -> Option<bool> {
-    match store.list(alloc, path).ok()?.as_slice() {
+fn is_dated<S: Storage>(alloc: Global, store: &mut S, path: &str, second: u64) -> Option<bool>
+    requires { IsAtRest (S.state store.old) }
+    ensures { IsAtRest (S.state store.new) }
+{
+    match list(alloc, store, path).ok()?.as_slice() {
         [entry] => Some(entry.second == second),
         _ => Some(false),
     }
 }
 
 // A put answers a second, `listed` where the entry has that second, or a refusal.
-fn is_put<S: Storage>(alloc: Global, store: &mut S, object: &str, wanted: &str) -> Option<bool> {
+fn is_put<S: Storage>(alloc: Global, store: &mut S, object: &str, wanted: &str) -> Option<bool>
+    requires { IsAtRest (S.state store.old) }
+    ensures { IsAtRest (S.state store.new) }
+{
     let (path, text) = object.split_once('=')?;
     match put(alloc, store, path, text) {
         Ok(second) if wanted == "listed" => is_dated(alloc, store, path, second),
         Ok(second) => is_number(alloc, second, wanted),
+        Err(denied) => Some(refusal(denied) == wanted),
+    }
+}
+
+// An object's bytes, `absent`, or a refusal.
+fn is_got<S: Storage>(alloc: Global, store: &mut S, path: &str, wanted: &str) -> Option<bool>
+    requires { IsAtRest (S.state store.old) }
+    ensures { IsAtRest (S.state store.new) }
+{
+    match get(alloc, store, path) {
+        Ok(Some(bytes)) => Some(bytes.as_slice() == wanted.as_bytes()),
+        Ok(None) => Some(wanted == "absent"),
+        Err(denied) => Some(refusal(denied) == wanted),
+    }
+}
+
+// The bytes whose fingerprint is told, `absent`, or a refusal.
+fn is_looked_at<S: Storage>(
+    alloc: Global,
+    store: &mut S,
+    path: &str,
+    wanted: &str,
+) -> Option<bool>
+    requires { IsAtRest (S.state store.old) }
+    ensures { IsAtRest (S.state store.new) }
+{
+    match stat(alloc, store, path) {
+        Ok(Some(stat)) => Some(stat.fingerprint == Fingerprint::of(wanted.as_bytes())),
+        Ok(None) => Some(wanted == "absent"),
+        Err(denied) => Some(refusal(denied) == wanted),
+    }
+}
+
+// A delete answers `done`, or a refusal.
+fn is_deleted<S: Storage>(alloc: Global, store: &mut S, path: &str, wanted: &str) -> Option<bool>
+    requires { IsAtRest (S.state store.old) }
+    ensures { IsAtRest (S.state store.new) }
+{
+    match delete(alloc, store, path) {
+        Ok(()) => Some(wanted == "done"),
         Err(denied) => Some(refusal(denied) == wanted),
     }
 }
@@ -67,8 +162,11 @@ fn is_list<S: Storage>(
     under: &str,
     is_size: bool,
     wanted: &str,
-) -> Option<bool> {
-    match store.list(alloc, under) {
+) -> Option<bool>
+    requires { IsAtRest (S.state store.old) }
+    ensures { IsAtRest (S.state store.new) }
+{
+    match list(alloc, store, under) {
         Ok(entries) if entries.is_empty() => Some(wanted == "nothing"),
         Ok(entries) => {
             let text = entries_text(alloc, entries.as_slice(), is_size)?;
@@ -78,26 +176,35 @@ fn is_list<S: Storage>(
     }
 }
 
-fn is_opened<S: Storage>(alloc: Global, store: &mut S, bucket: &str, wanted: &str) -> Option<bool> {
+fn is_opened<S: Storage>(alloc: Global, store: &mut S, bucket: &str, wanted: &str) -> Option<bool>
+    requires { IsAtRest (S.state store.old) }
+    ensures { IsAtRest (S.state store.new) }
+{
     let (base, bucket) = bucket.split_once('/')?;
-    match store.open(alloc, base, bucket, &Layout::plain(alloc)) {
+    match open(alloc, store, base, bucket) {
         Ok(()) => Some(wanted == "done"),
         Err(denied) => Some(refusal(denied) == wanted),
     }
 }
 
-// Whether a storage answers a call as wanted: `open BASE/BUCKET`, `put PATH=TEXT`, `sizes UNDER`
-// and `seconds UNDER` of a listing, or `now`.
+// Whether a storage answers a call as wanted: `open BASE/BUCKET`, `put PATH=TEXT`, `get PATH`,
+// `stat PATH`, `delete PATH`, `sizes UNDER` and `seconds UNDER` of a listing, or `now`.
 pub(crate) fn is_answered<S: Storage>(
     alloc: Global,
     store: &mut S,
     call: &str,
     wanted: &str,
-) -> Option<bool> {
+) -> Option<bool>
+    requires { IsAtRest (S.state store.old) }
+    ensures { IsAtRest (S.state store.new) }
+{
     let (word, rest) = call.split_once(' ').unwrap_or((call, ""));
     match word {
         "open" => is_opened(alloc, store, rest, wanted),
         "put" => is_put(alloc, store, rest, wanted),
+        "get" => is_got(alloc, store, rest, wanted),
+        "stat" => is_looked_at(alloc, store, rest, wanted),
+        "delete" => is_deleted(alloc, store, rest, wanted),
         "sizes" => is_list(alloc, store, rest, true, wanted),
         "seconds" => is_list(alloc, store, rest, false, wanted),
         "now" => is_number(alloc, store.now(), wanted),
@@ -105,7 +212,10 @@ pub(crate) fn is_answered<S: Storage>(
     }
 }
 
-fn is_right<S: Storage>(alloc: Global, store: &mut S, row: &str) -> Option<bool> {
+fn is_right<S: Storage>(alloc: Global, store: &mut S, row: &str) -> Option<bool>
+    requires { IsAtRest (S.state store.old) }
+    ensures { IsAtRest (S.state store.new) }
+{
     let (call, wanted) = row.split_once(" => ")?;
     is_answered(alloc, store, call, wanted)
 }
@@ -115,7 +225,10 @@ pub(crate) fn first_wrong<'a, S: Storage>(
     alloc: Global,
     store: &mut S,
     table: &'a str,
-) -> Option<&'a str> {
+) -> Option<&'a str>
+    requires { IsAtRest (S.state store.old) }
+    ensures { IsAtRest (S.state store.new) }
+{
     for row in table.split('\n') {
         if is_right(alloc, store, row) != Some(true) {
             return Some(row);

@@ -1,6 +1,6 @@
 // A storage of folders over a system whose clock and files fail where told.
-use crate::calls::{put, refusal};
-use med_base::Layout;
+use crate::calls::refusal;
+use med_base::{Layout, ObjPath};
 use med_folder::FolderStore;
 use med_outside::Storage;
 use std::alloc::{Alloc, Allocator, Global};
@@ -109,25 +109,33 @@ fn a_clock_that_cant_be_read_gives_the_last_second(rt: HostRuntime) {
     assert_eq!(rt; store.now(), 7);
 }
 
-// A put of `a/b/x` where what ends in a letter isn't opened answers `done` or a refusal.
-fn is_right<S: Storage>(
+// A call for `a/b/x` where what ends in a letter isn't opened, `put LETTER` or `delete LETTER`,
+// answers `done` or a refusal.
+fn is_right<R: Files + Clock + AllocGlobal + Clone + Drop>(
     alloc: Global,
-    store: &mut S,
+    store: &mut FolderStore<Failing<'_, R>>,
     letter: &Cell<char>,
     row: &str,
 ) -> Option<bool> {
-    let (unopened, wanted) = row.split_once(" => ")?;
+    let (call, wanted) = row.split_once(" => ")?;
+    let (word, unopened) = call.split_once(' ')?;
     letter.set(unopened.chars().next()?);
-    match put(alloc, store, "a/b/x", "x") {
-        Ok(_) => Some(wanted == "done"),
-        Err(denied) => Some(refusal(denied) == wanted),
+    let path = ObjPath::of(alloc, "a/b/x").ok()?;
+    let denied = match word {
+        "put" => store.put(alloc, &path, b"x").err(),
+        "delete" => store.delete(alloc, &path).err(),
+        _ => return None,
+    };
+    match denied {
+        None => Some(wanted == "done"),
+        Some(denied) => Some(refusal(denied) == wanted),
     }
 }
 
-// The first row whose put is answered otherwise.
-fn first_wrong<'a, S: Storage>(
+// The first row whose call is answered otherwise.
+fn first_wrong<'a, R: Files + Clock + AllocGlobal + Clone + Drop>(
     alloc: Global,
-    store: &mut S,
+    store: &mut FolderStore<Failing<'_, R>>,
     letter: &Cell<char>,
     table: &'a str,
 ) -> Option<&'a str> {
@@ -139,15 +147,20 @@ fn first_wrong<'a, S: Storage>(
     None
 }
 
-// None of the folders on the way, and each of them, from the last to the first.
+// None of the folders on the way, and each of them, from the last to the first. What a call that
+// failed deleted is gone when it is asked for again.
 const UNOPENED: &str = "\
-- => done
-b => failed
-a => failed
-k => failed";
+put - => done
+put b => failed
+put a => failed
+put k => failed
+delete b => failed
+delete b => failed
+delete a => done
+delete - => done";
 
 #[test]
-fn each_folder_on_the_way_is_synced(rt: HostRuntime) {
+fn each_folder_whose_names_changed_is_synced(rt: HostRuntime) {
     let (readings, letter) = (Cell::new(0), Cell::new('-'));
     let failing = Failing {
         rt,

@@ -1,5 +1,7 @@
 // A storage of folders.
-use crate::calls::{entries_text, is_answered, put};
+ghost use Rattle.med_outside.specs.State.{IsAtRest};
+
+use crate::calls::{entries_text, is_answered, list, put};
 use crate::places::is_done;
 use med_folder::FolderStore;
 use med_outside::Storage;
@@ -10,7 +12,10 @@ use std::os::unix::fs::MetadataExt;
 use std::time::{Clock, SystemTime, UNIX_EPOCH};
 
 // A row with an answer is a call of the storage, and one without makes or looks for a file.
-fn is_right<R: Files, S: Storage>(rt: &R, alloc: Global, store: &mut S, row: &str) -> Option<bool> {
+fn is_right<R: Files, S: Storage>(rt: &R, alloc: Global, store: &mut S, row: &str) -> Option<bool>
+    requires { IsAtRest (S.state store.old) }
+    ensures { IsAtRest (S.state store.new) }
+{
     match row.split_once(" => ") {
         Some((call, wanted)) => is_answered(alloc, store, call, wanted),
         None => Some(is_done(rt, row)),
@@ -23,7 +28,10 @@ fn first_wrong<'a, R: Files, S: Storage>(
     alloc: Global,
     store: &mut S,
     table: &'a str,
-) -> Option<&'a str> {
+) -> Option<&'a str>
+    requires { IsAtRest (S.state store.old) }
+    ensures { IsAtRest (S.state store.new) }
+{
     for row in table.split('\n') {
         if is_right(rt, alloc, store, row) != Some(true) {
             return Some(row);
@@ -38,20 +46,28 @@ fn clock_second<R: Clock>(rt: &R) -> Option<u64> {
 }
 
 // Puts three objects, and answers their seconds.
-fn put_three<S: Storage>(alloc: Global, store: &mut S) -> Option<[u64; 3]> {
+fn put_three<S: Storage>(alloc: Global, store: &mut S) -> Option<[u64; 3]>
+    requires { IsAtRest (S.state store.old) }
+    ensures { IsAtRest (S.state store.new) }
+{
     let schema = put(alloc, store, "n1/b1/meta/schema.cql", "abc").ok()?;
     let empty = put(alloc, store, "a/x", "").ok()?;
     let dashed = put(alloc, store, "a-b/x", "de").ok()?;
     Some([schema, empty, dashed])
 }
 
-fn is_seconds<S: Storage>(alloc: Global, store: &mut S, under: &str, wanted: &str) -> Option<bool> {
-    let entries = store.list(alloc, under).ok()?;
+fn is_seconds<S: Storage>(alloc: Global, store: &mut S, under: &str, wanted: &str) -> Option<bool>
+    requires { IsAtRest (S.state store.old) }
+    ensures { IsAtRest (S.state store.new) }
+{
+    let entries = list(alloc, store, under).ok()?;
     Some(entries_text(alloc, entries.as_slice(), false)?.as_str() == wanted)
 }
 
 // Whether the listings under nothing and under a text that is no folder have these seconds.
-fn are_dated<S: Storage>(alloc: Global, store: &mut S, seconds: [u64; 3]) -> Option<bool> {
+fn are_dated<S: Storage>(alloc: Global, store: &mut S, seconds: [u64; 3]) -> Option<bool>
+    requires { IsAtRest (S.state store.old) }
+{
     let [schema, empty, dashed] = seconds;
     let under = format!(in alloc; "n1/b1/meta/schema.cql {schema};").ok()?;
     let under = under.as_str();
@@ -71,7 +87,9 @@ sizes linked/ => nothing";
 
 // Whether a store that is open lists three objects with the seconds that their puts answered, the
 // first not before the clock's, and nothing of what is planted beside them.
-fn is_listed<R: Files + Clock, S: Storage>(rt: &R, alloc: Global, store: &mut S) -> Option<bool> {
+fn is_listed<R: Files + Clock, S: Storage>(rt: &R, alloc: Global, store: &mut S) -> Option<bool>
+    requires { IsAtRest (S.state store.old) }
+{
     let start = clock_second(rt)?;
     let seconds = put_three(alloc, store)?;
     let is_shown = first_wrong(rt, alloc, store, PLANTED).is_none();

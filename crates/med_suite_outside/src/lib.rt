@@ -9,11 +9,19 @@ mod calls;
 #[cfg(test)]
 mod clocks;
 #[cfg(test)]
+mod file_pieces;
+#[cfg(test)]
 mod folders;
 #[cfg(test)]
 mod memory;
 #[cfg(test)]
 mod names;
+#[cfg(test)]
+mod node_folders;
+#[cfg(test)]
+mod objects;
+#[cfg(test)]
+mod pages;
 #[cfg(test)]
 mod places;
 #[cfg(test)]
@@ -22,3 +30,9 @@ mod sinks;
 mod snapshots;
 #[cfg(test)]
 mod storages;
+#[cfg(test)]
+mod store_faults;
+#[cfg(test)]
+mod told_faults;
+#[cfg(test)]
+mod uploads;

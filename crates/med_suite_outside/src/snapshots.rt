@@ -9,7 +9,7 @@ use crate::places::{first_undone, long_file, write_file};
 use med_base::{Component, FileKey, Fqdn};
 use med_folder::{FolderNodes, FolderSnap};
 use med_mem::{MemFile, MemNodes, MemSnap};
-use med_outside::{Denied, Nodes, RawKey, Snap};
+use med_outside::{Denied, Nodes, Piece, RawKey, Snap};
 use std::alloc::Global;
 use std::fs::Files;
 
@@ -53,26 +53,41 @@ fn are_keys<P: Snap>(alloc: Global, snap: &mut P, wanted: &str) -> Option<bool> 
     }
 }
 
-// Bytes answer themselves, with `¶` for a line feed, `nothing`, or a refusal. `long` stands for
-// those of the long file.
-fn are_bytes(
+// Bytes answer themselves, with `¶` for a line feed, or `nothing`. `long` stands for those of the
+// long file.
+fn are_bytes(alloc: Global, bytes: &[u8], long: &[u8], wanted: &str) -> Option<bool> {
+    if bytes.is_empty() {
+        return Some(wanted == "nothing");
+    }
+    let wanted = wanted.replace(alloc, '\u{b6}', "\n").ok()?;
+    Some(is_text(bytes, wanted.as_str(), long))
+}
+
+// The same of a piece, or a refusal.
+fn is_piece(
     alloc: Global,
-    answer: &Result<Vec<u8>, Denied>,
+    answer: &Result<Piece, Denied>,
     long: &[u8],
     wanted: &str,
 ) -> Option<bool> {
     match answer {
-        Ok(bytes) if bytes.is_empty() => Some(wanted == "nothing"),
-        Ok(bytes) => {
-            let wanted = wanted.replace(alloc, '\u{b6}', "\n").ok()?;
-            Some(is_text(bytes.as_slice(), wanted.as_str(), long))
-        }
+        Ok(piece) => are_bytes(alloc, piece.bytes(), long, wanted),
         Err(denied) => Some(refusal(*denied) == wanted),
     }
 }
 
 fn is_schema<P: Snap>(alloc: Global, snap: &mut P, wanted: &str) -> Option<bool> {
-    are_bytes(alloc, &snap.schema(alloc), b"", wanted)
+    match snap.schema(alloc) {
+        Ok(bytes) => are_bytes(alloc, bytes.as_slice(), b"", wanted),
+        Err(denied) => Some(refusal(denied) == wanted),
+    }
+}
+
+fn is_ring<P: Snap>(alloc: Global, snap: &mut P, wanted: &str) -> Option<bool> {
+    match snap.ring(alloc) {
+        Ok(bytes) => are_bytes(alloc, bytes.as_slice(), b"", wanted),
+        Err(denied) => Some(refusal(denied) == wanted),
+    }
 }
 
 // The key that a raw one names.
@@ -96,16 +111,17 @@ fn is_first<P: Snap>(alloc: Global, snap: &mut P, wanted: &str) -> Option<bool> 
         return Some(wanted == "none");
     };
     let key = named_key(alloc, first)?;
-    are_bytes(alloc, &snap.read(alloc, &key), b"", wanted)
+    is_piece(alloc, &snap.read_piece(alloc, &key, 0), b"", wanted)
 }
 
-// Whether a snapshot answers `keys`, `first` and `schema` as wanted.
+// Whether a snapshot answers `keys`, `first`, `schema` and `ring` as wanted.
 fn is_told<P: Snap>(alloc: Global, snap: &mut P, row: &str) -> Option<bool> {
     let (call, wanted) = row.split_once(" => ")?;
     match call {
         "keys" => are_keys(alloc, snap, wanted),
         "first" => is_first(alloc, snap, wanted),
         "schema" => is_schema(alloc, snap, wanted),
+        "ring" => is_ring(alloc, snap, wanted),
         _ => None,
     }
 }
@@ -166,19 +182,26 @@ fn three_files(alloc: Global) -> Option<Vec<MemFile>> {
 fn add_three(alloc: Global, nodes: &mut MemNodes) -> Option<()> {
     let schema = b"CREATE".as_slice().to_vec(alloc).ok()?;
     let files = three_files(alloc)?;
-    let snap = MemSnap { files, schema };
+    let ring = b"{}".as_slice().to_vec(alloc).ok()?;
+    let snap = MemSnap {
+        files,
+        schema,
+        ring,
+    };
     nodes.add(alloc, "nodes", "n1", "medusa-b1", snap).ok()
 }
 
 const ADDED: &str = "\
 first => first
 keys => k t f.db;k s f.db;
-schema => CREATE";
+schema => CREATE
+ring => {}";
 
 const NOT_ADDED: &str = "\
 first => none
 keys => nothing
-schema => nothing";
+schema => nothing
+ring => nothing";
 
 #[test]
 fn of_two_files_with_one_key_the_first_counts(rt: HostRuntime) {
@@ -199,7 +222,7 @@ fn is_read<R: Files + AllocGlobal + Clone + Drop>(
     let (keyspace, key) = key.split_once(' ')?;
     let (table, file) = key.split_once(' ')?;
     let key = file_key(alloc, keyspace, table, file)?;
-    are_bytes(alloc, &snap.read(alloc, &key), long, wanted)
+    is_piece(alloc, &snap.read_piece(alloc, &key, 0), long, wanted)
 }
 
 fn first_unread<'a, R: Files + AllocGlobal + Clone + Drop>(

@@ -11,8 +11,23 @@ put n1/b/x=12 => listed
 put n1/b.2/\u{e9}=123 => listed
 sizes => n1/b-1/x 1;n1/b.2/\u{e9} 3;n1/b/x 2;
 sizes n1/b. => n1/b.2/\u{e9} 3;
+get n1/b/x => 12
+stat n1/b/x => 12
+get n1/b => absent
 put n1/b/x= => listed
-sizes n1/b/ => n1/b/x 0;";
+sizes n1/b/ => n1/b/x 0;
+stat n1/b/x => 
+get n1/b/x => 
+delete n1/b/x => done
+get n1/b/x => absent
+stat n1/b/x => absent
+sizes n1/b/ => nothing
+delete n1/b/x => done
+delete n1/b => done
+sizes => n1/b-1/x 1;n1/b.2/\u{e9} 3;
+put n1/b/x=1234 => listed
+get n1/b/x => 1234
+stat n1/b/x => 1234";
 
 #[test]
 fn a_store_in_memory_passes(rt: HostRuntime) {

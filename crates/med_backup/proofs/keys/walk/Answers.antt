@@ -21,14 +21,14 @@ returns-in-Ok-key_list-clause-names g c =
 
 pub returns-in-Ok-key_list-clause-keys : goal.returns-in-Ok-key_list-clause-keys
 returns-in-Ok-key_list-clause-keys g c =
-    told_keys (g.P.Snap.held c.args.snap.now) (map key_of_raw c.as_slice-2.result.now)
+    told_keys (g.P.Snap.state c.args.snap.now).held (map key_of_raw c.as_slice-2.result.now)
     c.in_ok-keys.keys.entries c.in-Ok-key_list.keys.items
     (g.met.P.Snap.listed_once c.args.snap.now) (rw c.as_slice-2.ensures.value c.in-Ok.ensures.keys)
     c.in_ok-keys.ensures.keys c.in-Ok-key_list.ensures
 
 pub returns-in-Ok-key_list-clause-walked : goal.returns-in-Ok-key_list-clause-walked
 returns-in-Ok-key_list-clause-walked g c =
-    told_walk key_of_raw c.as_slice-2.result.now (g.P.Snap.held c.args.snap.now)
+    told_walk key_of_raw c.as_slice-2.result.now (g.P.Snap.state c.args.snap.now).held
     (rw c.as_slice-2.ensures.value c.in-Ok.ensures.keys)
     (rw c.as_slice-2.ensures.value
     (rw c.as_slice.ensures.value at (sym c.is_empty.ensures ∙ c.if-is_empty.false)))

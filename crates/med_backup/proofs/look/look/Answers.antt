@@ -16,7 +16,7 @@ returns-in-None-clause-ends g c = inr (
   ),
   inr (
     c.in_ok-schema.schema.items,
-    rw c.walk.ensures.same at (value_of _ _ c.schema.result c.in_ok-schema.schema
+    rw c.walk.ensures.same.held at (value_of _ _ c.schema.result c.in_ok-schema.schema
         c.in_ok-schema.ensures.variant c.in_ok-schema.ensures.cases c.schema.ensures.bytes),
     inr (
       tt,
@@ -39,7 +39,7 @@ returns-in-Some-clause-ends g c = inr (
   ),
   inr (
     c.in_ok-schema.schema.items,
-    rw c.walk.ensures.same at (value_of _ _ c.schema.result c.in_ok-schema.schema
+    rw c.walk.ensures.same.held at (value_of _ _ c.schema.result c.in_ok-schema.schema
         c.in_ok-schema.ensures.variant c.in_ok-schema.ensures.cases c.schema.ensures.bytes),
     inl (
       (
@@ -67,12 +67,13 @@ returns-in_err-map_err-clause-ends g c =
       ),
       inr (
         c.in_ok-schema.schema.items,
-        rw c.walk.ensures.same at (value_of _ _ c.schema.result c.in_ok-schema.schema
+        rw c.walk.ensures.same.held at (value_of _ _ c.schema.result c.in_ok-schema.schema
             c.in_ok-schema.ensures.variant c.in_ok-schema.ensures.cases c.schema.ensures.bytes),
         inl (
           store_stop (FindsFree c.args.layout.now c.args.node.now c.args.name.now
-              (g.S.Storage.state c.args.store.now).content) _ _ (g.P.Snap.faults c.args.snap.now)
-              (g.P.Snap.faults c.schema.new.self) (g.S.Storage.state c.args.store.now).faults
+              (g.S.Storage.state c.args.store.now).content) _ _ (g.P.Snap.state
+              c.args.snap.now).faults
+              (g.P.Snap.state c.schema.new.self).faults (g.S.Storage.state c.args.store.now).faults
               (g.S.Storage.state c.args.store.now).faults
               (g.S.Storage.state c.first_under.new.store).faults c.first_under.result
               c.in_err-map_err.field-0.0 c.in_err-map_err.ensures.variant

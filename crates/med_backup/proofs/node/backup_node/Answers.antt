@@ -1,10 +1,10 @@
-use Rattle.std.proofs.Common.{◌≡◌, [], inr, Vec, Global, arith}
+use Rattle.std.proofs.Common.{◌≡◌, inr, Vec, Global, arith}
 use Rattle.std.proofs.lemmas.Result.{IfOk-weaker}
 use Rattle.med_backup.proofs.Denials.{good}
 use Rattle.med_backup.proofs.NodeSteps.{later_rose, left_later}
 use Rattle.med_manifest.specs.declared.manifest.FileRecord.{FileRecord}
 use Rattle.med_outside.specs.Ends.{seen}
-use Rattle.med_outside.specs.State.{ChangesWithin}
+use Rattle.med_outside.specs.State.{OnlyReads}
 use Rattle.med_outside.specs.World.{rose_of_node}
 use Rattle.med_outside.proofs.EndsLemmas.{carried}
 use Rattle.med_backup.specs.BackedUp.{IsBackedUpFrom}
@@ -17,44 +17,46 @@ use Rattle.med_backup.proofs.node.backup_node.Goals as goal
 
 pub returns-clause-ok : goal.returns-clause-ok
 returns-clause-ok g c =
-    let first : ChangesWithin [] (opened_at (node_config_of c.args.config.now)
+    let opened : OnlyReads (opened_at (node_config_of c.args.config.now)
     (g.S.Storage.state c.args.store.now))
-    (g.S.Storage.state c.open-opened.new.self) (g.S.Storage.stood_since c.args.store.now)
-    (g.S.Storage.stood_since c.open-opened.new.self) =
+    (g.S.Storage.state c.open-opened.new.self) (g.S.Storage.stood c.args.store.now)
+    (g.S.Storage.stood c.open-opened.new.self) =
     rw (c.as_str-base.ensures.value, c.as_str-bucket.ensures.value) at
     (good c.open-opened.result c.in_ok-map_err.ensures.variant c.open-opened.ensures.ok) in
+    let first = opened.moves in
     let held = snap_at (g.N.Nodes.state c.args.nodes.now).snaps (node_config_of c.args.config.now)
     c.args.name.now in
     IfOk-weaker c.backup_opened.result
     (λ (files : Vec FileRecord Global). IsBackedUpFrom c.args.config.now.layout
     c.args.config.now.node
     c.args.name.now held (g.S.Storage.state c.open-opened.new.self)
-    (g.S.Storage.state c.backup_opened.new.store) (g.S.Storage.stood_since c.open-opened.new.self)
-    (g.S.Storage.stood_since c.backup_opened.new.store) files.items)
+    (g.S.Storage.state c.backup_opened.new.store) (g.S.Storage.stood c.open-opened.new.self)
+    (g.S.Storage.stood c.backup_opened.new.store) files.items)
     (λ (files : Vec FileRecord Global). IsBackedUpFrom c.args.config.now.layout
     c.args.config.now.node
     c.args.name.now held
     (opened_at (node_config_of c.args.config.now) (g.S.Storage.state c.args.store.now))
-    (g.S.Storage.state c.backup_opened.new.store) (g.S.Storage.stood_since c.args.store.now)
-    (g.S.Storage.stood_since c.backup_opened.new.store) files.items)
+    (g.S.Storage.state c.backup_opened.new.store) (g.S.Storage.stood c.args.store.now)
+    (g.S.Storage.stood c.backup_opened.new.store) files.items)
     (λ files made. made_after c.args.config.now.layout c.args.config.now.node c.args.name.now held
     (opened_at (node_config_of c.args.config.now) (g.S.Storage.state c.args.store.now))
     (g.S.Storage.state c.open-opened.new.self) (g.S.Storage.state c.backup_opened.new.store)
-    (g.S.Storage.stood_since c.args.store.now) (g.S.Storage.stood_since c.open-opened.new.self)
-    (g.S.Storage.stood_since c.backup_opened.new.store) files.items first made)
+    (g.S.Storage.stood c.args.store.now) (g.S.Storage.stood c.open-opened.new.self)
+    (g.S.Storage.stood c.backup_opened.new.store) files.items first made)
     c.backup_opened.ensures.ok
 
 pub returns-clause-ends : goal.returns-clause-ends
 returns-clause-ends g c =
     let node_config = node_config_of c.args.config.now in
-    let first : ChangesWithin [] (opened_at node_config (g.S.Storage.state c.args.store.now))
-    (g.S.Storage.state c.open-opened.new.self) (g.S.Storage.stood_since c.args.store.now)
-    (g.S.Storage.stood_since c.open-opened.new.self) =
+    let opened : OnlyReads (opened_at node_config (g.S.Storage.state c.args.store.now))
+    (g.S.Storage.state c.open-opened.new.self) (g.S.Storage.stood c.args.store.now)
+    (g.S.Storage.stood c.open-opened.new.self) =
     rw (c.as_str-base.ensures.value, c.as_str-bucket.ensures.value) at
     (good c.open-opened.result c.in_ok-map_err.ensures.variant c.open-opened.ensures.ok) in
+    let first = opened.moves in
     let content = same_content (opened_at node_config (g.S.Storage.state c.args.store.now))
-    (g.S.Storage.state c.open-opened.new.self) (g.S.Storage.stood_since c.args.store.now)
-    (g.S.Storage.stood_since c.open-opened.new.self) first.passes in
+    (g.S.Storage.state c.open-opened.new.self) (g.S.Storage.stood c.args.store.now)
+    (g.S.Storage.stood c.open-opened.new.self) first.passes in
     inr (
       tt,
       tt,
@@ -73,24 +75,24 @@ returns-clause-ends g c =
           (g.S.Storage.state c.args.store.now).faults
           (g.S.Storage.state c.open-opened.new.self).faults
           (g.S.Storage.state c.backup_opened.new.store).faults (omega arith)
-          c.open-opened.ensures.cause.later)
+          c.open-opened.ensures.called.cause.later)
           (λ (left : Left). (left.bucket ≡ opened_at node_config)
           × IsMadeBy (g.S.Storage.state c.open-opened.new.self)
           (g.S.Storage.state c.backup_opened.new.store)
-          (g.S.Storage.stood_since c.open-opened.new.self)
-          (g.S.Storage.stood_since c.backup_opened.new.store) left.made
+          (g.S.Storage.stood c.open-opened.new.self)
+          (g.S.Storage.stood c.backup_opened.new.store) left.made
           × ((g.N.Nodes.state c.backup_opened.new.nodes).counts
           ≡ left.counts (g.N.Nodes.state c.args.nodes.now).counts))
           (Leaves (g.N.Nodes.state c.args.nodes.now) (g.N.Nodes.state c.backup_opened.new.nodes)
           (g.S.Storage.state c.args.store.now) (g.S.Storage.state c.backup_opened.new.store)
-          (g.S.Storage.stood_since c.args.store.now)
-          (g.S.Storage.stood_since c.backup_opened.new.store))
+          (g.S.Storage.stood c.args.store.now)
+          (g.S.Storage.stood c.backup_opened.new.store))
           (left_later node_config (g.N.Nodes.state c.args.nodes.now)
           (g.N.Nodes.state c.backup_opened.new.nodes) (g.S.Storage.state c.args.store.now)
           (g.S.Storage.state c.open-opened.new.self) (g.S.Storage.state c.backup_opened.new.store)
-          (g.S.Storage.stood_since c.args.store.now) (g.S.Storage.stood_since
+          (g.S.Storage.stood c.args.store.now) (g.S.Storage.stood
           c.open-opened.new.self)
-          (g.S.Storage.stood_since c.backup_opened.new.store) first)
+          (g.S.Storage.stood c.backup_opened.new.store) first)
           (opened_plan node_config c.args.name.now (g.N.Nodes.state c.args.nodes.now).snaps
           (g.S.Storage.state c.args.store.now).content)
           (seen (λ (v : Vec FileRecord Global). v.items) (stop_of c.args.name.now)

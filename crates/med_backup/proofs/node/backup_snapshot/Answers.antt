@@ -12,24 +12,25 @@ use Rattle.med_backup.proofs.node.backup_snapshot.Goals as goal
 pub returns-in_err-found-clause-ends : goal.returns-in_err-found-clause-ends
 returns-in_err-found-clause-ends g c =
     let p = err_from_is_err_and c.from_residual.result c.from_residual.ensures.1 in
-    rw (p.1, p.2) (stops_all (rose_of_node (g.P.Snap.faults c.args.snap.now)
-    (g.P.Snap.faults c.look.new.snap)
+    rw (p.1, p.2) (stops_all (rose_of_node (g.P.Snap.state c.args.snap.now).faults
+    (g.P.Snap.state c.look.new.snap).faults
     (g.S.Storage.state c.args.store.now).faults (g.S.Storage.state c.look.new.store).faults)
     (IsMadeBy (g.S.Storage.state c.args.store.now) (g.S.Storage.state c.look.new.store)
-    (g.S.Storage.stood_since c.args.store.now) (g.S.Storage.stood_since c.look.new.store))
+    (g.S.Storage.stood c.args.store.now) (g.S.Storage.stood c.look.new.store))
     (λ found. copy_plan c.args.layout.now c.args.node.now c.args.name.now
-    (g.P.Snap.held c.args.snap.now) found.0 found.1)
+    (g.P.Snap.state c.args.snap.now).held found.0 found.1)
     (stop_of c.args.name.now c.in_err-found.field-0.0)
-    (look_plan c.args.layout.now c.args.node.now c.args.name.now (g.P.Snap.held c.args.snap.now)
+    (look_plan c.args.layout.now c.args.node.now c.args.name.now (g.P.Snap.state
+    c.args.snap.now).held
     (g.S.Storage.state c.args.store.now).content) c.in_err-found.ensures.ends)
 
-pub copy_found-requires : goal.copy_found-requires
-copy_found-requires g c =
+pub copy_found-requires-clause-found : goal.copy_found-requires-clause-found
+copy_found-requires-clause-found g c =
     let content = same_content (g.S.Storage.state c.args.store.now)
-    (g.S.Storage.state c.look.new.store) (g.S.Storage.stood_since c.args.store.now)
-    (g.S.Storage.stood_since c.look.new.store)
+    (g.S.Storage.state c.look.new.store) (g.S.Storage.stood c.args.store.now)
+    (g.S.Storage.stood c.look.new.store)
     c.look.ensures.looks.moves.passes in
-    rw (c.look.ensures.same, content) c.in_ok-found.ensures.ok
+    rw (c.look.ensures.same.held, content) c.in_ok-found.ensures.ok
 
 pub returns-clause-ok : goal.returns-clause-ok
 returns-clause-ok g c = record {
@@ -37,88 +38,99 @@ returns-clause-ok g c = record {
   schema = c.in_ok-found.found.schema.items;
   found = c.in_ok-found.ensures.ok;
   made = made_later (g.S.Storage.state c.args.store.now) (g.S.Storage.state c.look.new.store)
-      (g.S.Storage.state c.copy_found.new.store) (g.S.Storage.stood_since c.args.store.now)
-      (g.S.Storage.stood_since c.look.new.store) (g.S.Storage.stood_since c.copy_found.new.store)
+      (g.S.Storage.state c.copy_found.new.store) (g.S.Storage.stood c.args.store.now)
+      (g.S.Storage.stood c.look.new.store) (g.S.Storage.stood c.copy_found.new.store)
       c.look.ensures.looks.moves
-      (HasAll c.args.layout.now c.args.node.now c.args.name.now (g.P.Snap.held c.args.snap.now)
+      (HasAll c.args.layout.now c.args.node.now c.args.name.now (g.P.Snap.state
+      c.args.snap.now).held
       c.in_ok-found.found.keys.items c.in_ok-found.found.schema.items c.in_ok-files.files.items)
-      (rw c.look.ensures.same at c.in_ok-files.ensures.ok);
+      (rw c.look.ensures.same.held at c.in_ok-files.ensures.ok);
   manifest_is = c.in_ok-files.ensures.names;
 }
 
 pub returns-clause-ends : goal.returns-clause-ends
 returns-clause-ends g c =
-    let low = rose_of_node (g.P.Snap.faults c.args.snap.now) (g.P.Snap.faults c.look.new.snap)
+    let low = rose_of_node (g.P.Snap.state c.args.snap.now).faults (g.P.Snap.state
+    c.look.new.snap).faults
     (g.S.Storage.state c.args.store.now).faults (g.S.Storage.state c.look.new.store).faults in
-    let mid = rose_of_node (g.P.Snap.faults c.look.new.snap) (g.P.Snap.faults c.copy_found.new.snap)
+    let mid = rose_of_node (g.P.Snap.state c.look.new.snap).faults (g.P.Snap.state
+    c.copy_found.new.snap).faults
     (g.S.Storage.state c.look.new.store).faults (g.S.Storage.state c.copy_found.new.store).faults in
-    let rose = rose_of_node (g.P.Snap.faults c.args.snap.now)
-    (g.P.Snap.faults c.copy_found.new.snap)
+    let rose = rose_of_node (g.P.Snap.state c.args.snap.now).faults
+    (g.P.Snap.state c.copy_found.new.snap).faults
     (g.S.Storage.state c.args.store.now).faults (g.S.Storage.state c.copy_found.new.store).faults in
     let means = IsMadeBy (g.S.Storage.state c.args.store.now)
     (g.S.Storage.state c.copy_found.new.store)
-    (g.S.Storage.stood_since c.args.store.now) (g.S.Storage.stood_since c.copy_found.new.store) in
+    (g.S.Storage.stood c.args.store.now) (g.S.Storage.stood c.copy_found.new.store) in
     goes_on rose means
     (λ found. copy_plan c.args.layout.now c.args.node.now c.args.name.now
-    (g.P.Snap.held c.args.snap.now) found.0 found.1) low
+    (g.P.Snap.state c.args.snap.now).held found.0 found.1) low
     (IsMadeBy (g.S.Storage.state c.args.store.now) (g.S.Storage.state c.look.new.store)
-    (g.S.Storage.stood_since c.args.store.now) (g.S.Storage.stood_since c.look.new.store))
-    (c.in_ok-found.found.keys.items, c.in_ok-found.found.schema.items) (Ok c.in_ok-files.files.items)
-    (look_plan c.args.layout.now c.args.node.now c.args.name.now (g.P.Snap.held c.args.snap.now)
+    (g.S.Storage.stood c.args.store.now) (g.S.Storage.stood c.look.new.store))
+    (c.in_ok-found.found.keys.items, c.in_ok-found.found.schema.items) (Ok
+    c.in_ok-files.files.items)
+    (look_plan c.args.layout.now c.args.node.now c.args.name.now (g.P.Snap.state
+    c.args.snap.now).held
     (g.S.Storage.state c.args.store.now).content) c.in_ok-found.ensures.ends
     (carried mid rose
-    (later_rose (g.P.Snap.faults c.args.snap.now) (g.P.Snap.faults c.look.new.snap)
-    (g.P.Snap.faults c.copy_found.new.snap)
+    (later_rose (g.P.Snap.state c.args.snap.now).faults (g.P.Snap.state c.look.new.snap).faults
+    (g.P.Snap.state c.copy_found.new.snap).faults
     (g.S.Storage.state c.args.store.now).faults (g.S.Storage.state c.look.new.store).faults
     (g.S.Storage.state c.copy_found.new.store).faults c.look.ensures.snap_later
     c.look.ensures.store_later)
     (IsMadeBy (g.S.Storage.state c.look.new.store) (g.S.Storage.state c.copy_found.new.store)
-    (g.S.Storage.stood_since c.look.new.store) (g.S.Storage.stood_since c.copy_found.new.store))
+    (g.S.Storage.stood c.look.new.store) (g.S.Storage.stood c.copy_found.new.store))
     means
     (made_later (g.S.Storage.state c.args.store.now) (g.S.Storage.state c.look.new.store)
-    (g.S.Storage.state c.copy_found.new.store) (g.S.Storage.stood_since c.args.store.now)
-    (g.S.Storage.stood_since c.look.new.store) (g.S.Storage.stood_since c.copy_found.new.store)
+    (g.S.Storage.state c.copy_found.new.store) (g.S.Storage.stood c.args.store.now)
+    (g.S.Storage.stood c.look.new.store) (g.S.Storage.stood c.copy_found.new.store)
     c.look.ensures.looks.moves)
-    (copy_plan c.args.layout.now c.args.node.now c.args.name.now (g.P.Snap.held c.args.snap.now)
+    (copy_plan c.args.layout.now c.args.node.now c.args.name.now (g.P.Snap.state
+    c.args.snap.now).held
     c.in_ok-found.found.keys.items c.in_ok-found.found.schema.items) (Ok c.in_ok-files.files.items)
-    (rw c.look.ensures.same at c.in_ok-files.ensures.ends))
+    (rw c.look.ensures.same.held at c.in_ok-files.ensures.ends))
 
 pub returns-in_err-files-clause-ends : goal.returns-in_err-files-clause-ends
 returns-in_err-files-clause-ends g c =
     let p = err_from_is_err_and c.from_residual-in_err-files.result
     c.from_residual-in_err-files.ensures.1 in
-    let low = rose_of_node (g.P.Snap.faults c.args.snap.now) (g.P.Snap.faults c.look.new.snap)
+    let low = rose_of_node (g.P.Snap.state c.args.snap.now).faults (g.P.Snap.state
+    c.look.new.snap).faults
     (g.S.Storage.state c.args.store.now).faults (g.S.Storage.state c.look.new.store).faults in
-    let mid = rose_of_node (g.P.Snap.faults c.look.new.snap) (g.P.Snap.faults c.copy_found.new.snap)
+    let mid = rose_of_node (g.P.Snap.state c.look.new.snap).faults (g.P.Snap.state
+    c.copy_found.new.snap).faults
     (g.S.Storage.state c.look.new.store).faults (g.S.Storage.state c.copy_found.new.store).faults in
-    let rose = rose_of_node (g.P.Snap.faults c.args.snap.now)
-    (g.P.Snap.faults c.copy_found.new.snap)
+    let rose = rose_of_node (g.P.Snap.state c.args.snap.now).faults
+    (g.P.Snap.state c.copy_found.new.snap).faults
     (g.S.Storage.state c.args.store.now).faults (g.S.Storage.state c.copy_found.new.store).faults in
     let means = IsMadeBy (g.S.Storage.state c.args.store.now)
     (g.S.Storage.state c.copy_found.new.store)
-    (g.S.Storage.stood_since c.args.store.now) (g.S.Storage.stood_since c.copy_found.new.store) in
+    (g.S.Storage.stood c.args.store.now) (g.S.Storage.stood c.copy_found.new.store) in
     rw (p.1, p.2) (goes_on rose means
     (λ found. copy_plan c.args.layout.now c.args.node.now c.args.name.now
-    (g.P.Snap.held c.args.snap.now) found.0 found.1) low
+    (g.P.Snap.state c.args.snap.now).held found.0 found.1) low
     (IsMadeBy (g.S.Storage.state c.args.store.now) (g.S.Storage.state c.look.new.store)
-    (g.S.Storage.stood_since c.args.store.now) (g.S.Storage.stood_since c.look.new.store))
-    (c.in_ok-found.found.keys.items, c.in_ok-found.found.schema.items) (Err (stop_of_fault c.in_err-files.field-0.0))
-    (look_plan c.args.layout.now c.args.node.now c.args.name.now (g.P.Snap.held c.args.snap.now)
+    (g.S.Storage.stood c.args.store.now) (g.S.Storage.stood c.look.new.store))
+    (c.in_ok-found.found.keys.items, c.in_ok-found.found.schema.items) (Err (stop_of_fault
+    c.in_err-files.field-0.0))
+    (look_plan c.args.layout.now c.args.node.now c.args.name.now (g.P.Snap.state
+    c.args.snap.now).held
     (g.S.Storage.state c.args.store.now).content) c.in_ok-found.ensures.ends
     (carried mid rose
-    (later_rose (g.P.Snap.faults c.args.snap.now) (g.P.Snap.faults c.look.new.snap)
-    (g.P.Snap.faults c.copy_found.new.snap)
+    (later_rose (g.P.Snap.state c.args.snap.now).faults (g.P.Snap.state c.look.new.snap).faults
+    (g.P.Snap.state c.copy_found.new.snap).faults
     (g.S.Storage.state c.args.store.now).faults (g.S.Storage.state c.look.new.store).faults
     (g.S.Storage.state c.copy_found.new.store).faults c.look.ensures.snap_later
     c.look.ensures.store_later)
     (IsMadeBy (g.S.Storage.state c.look.new.store) (g.S.Storage.state c.copy_found.new.store)
-    (g.S.Storage.stood_since c.look.new.store) (g.S.Storage.stood_since c.copy_found.new.store))
+    (g.S.Storage.stood c.look.new.store) (g.S.Storage.stood c.copy_found.new.store))
     means
     (made_later (g.S.Storage.state c.args.store.now) (g.S.Storage.state c.look.new.store)
-    (g.S.Storage.state c.copy_found.new.store) (g.S.Storage.stood_since c.args.store.now)
-    (g.S.Storage.stood_since c.look.new.store) (g.S.Storage.stood_since c.copy_found.new.store)
+    (g.S.Storage.state c.copy_found.new.store) (g.S.Storage.stood c.args.store.now)
+    (g.S.Storage.stood c.look.new.store) (g.S.Storage.stood c.copy_found.new.store)
     c.look.ensures.looks.moves)
-    (copy_plan c.args.layout.now c.args.node.now c.args.name.now (g.P.Snap.held c.args.snap.now)
+    (copy_plan c.args.layout.now c.args.node.now c.args.name.now (g.P.Snap.state
+    c.args.snap.now).held
     c.in_ok-found.found.keys.items c.in_ok-found.found.schema.items)
     (Err (stop_of_fault c.in_err-files.field-0.0))
-    (rw c.look.ensures.same at c.in_err-files.ensures.ends)))
+    (rw c.look.ensures.same.held at c.in_err-files.ensures.ends)))

@@ -18,23 +18,24 @@ use Rattle.med_commands.proofs.backup.back_up.Goals as goal
 pub returns-in-Err-clause-ends : goal.returns-in-Err-clause-ends
 returns-in-Err-clause-ends g c =
     let a = (world (g.F.Files.state c.args.files.now) (g.N.Nodes.state c.args.nodes.now)
-    (g.S.Storage.state c.args.store.now) (g.S.Storage.stood_since c.args.store.now)
+    (g.S.Storage.state c.args.store.now) (g.S.Storage.stood c.args.store.now)
     (g.O.Sink.state c.args.out.now)) in
-    asked_plan (asked_of c.args.request.now) c.args.name.now a a (Err (Failed Memory)) c.requires
+    asked_plan (asked_of c.args.request.now) c.args.name.now a a (Err (Failed Memory))
+    c.requires.asks
     (inl ((inr (inl refl), tt), (refl, moves_at_rest a.store a.stood, refl, refl)))
 
 pub returns-in_err-config-clause-ends : goal.returns-in_err-config-clause-ends
 returns-in_err-config-clause-ends g c =
     let a = (world (g.F.Files.state c.args.files.now) (g.N.Nodes.state c.args.nodes.now)
-    (g.S.Storage.state c.args.store.now) (g.S.Storage.stood_since c.args.store.now)
+    (g.S.Storage.state c.args.store.now) (g.S.Storage.stood c.args.store.now)
     (g.O.Sink.state c.args.out.now)) in
     let b = (world (g.F.Files.state c.load.new.files) (g.N.Nodes.state c.args.nodes.now)
-    (g.S.Storage.state c.args.store.now) (g.S.Storage.stood_since c.args.store.now)
+    (g.S.Storage.state c.args.store.now) (g.S.Storage.stood c.args.store.now)
     (g.O.Sink.state c.args.out.now)) in
     let p = err_from_is_err_and c.from_residual.result c.from_residual.ensures.1 in
     rw (p.1, p.2)
     (asked_plan (asked_of c.args.request.now) c.args.name.now a b
-    (Err (stop_of_load c.in_err-config.field-0.0)) c.requires
+    (Err (stop_of_load c.in_err-config.field-0.0)) c.requires.asks
     (inl (
       load_stop a.files.contents (asked_of c.args.request.now) (rose_of a b) a.files.faults
           b.files.faults (λ h. h) tt c.in_err-config.field-0.0 c.in_err-config.ensures.err,
@@ -44,10 +45,10 @@ returns-in_err-config-clause-ends g c =
 pub returns-in-Err-backup_node-clause-ends : goal.returns-in-Err-backup_node-clause-ends
 returns-in-Err-backup_node-clause-ends g c =
     let a = (world (g.F.Files.state c.args.files.now) (g.N.Nodes.state c.args.nodes.now)
-    (g.S.Storage.state c.args.store.now) (g.S.Storage.stood_since c.args.store.now)
+    (g.S.Storage.state c.args.store.now) (g.S.Storage.stood c.args.store.now)
     (g.O.Sink.state c.args.out.now)) in
     let b = (world (g.F.Files.state c.load.new.files) (g.N.Nodes.state c.backup_node.new.nodes)
-    (g.S.Storage.state c.backup_node.new.store) (g.S.Storage.stood_since c.backup_node.new.store)
+    (g.S.Storage.state c.backup_node.new.store) (g.S.Storage.stood c.backup_node.new.store)
     (g.O.Sink.state c.args.out.now)) in
     let node_config = node_config_of c.in_ok-config.config in
     let low = rose_of_node a.nodes.faults b.nodes.faults a.store.faults b.store.faults in
@@ -56,7 +57,7 @@ returns-in-Err-backup_node-clause-ends g c =
     let word : Left → Type 0 = λ (left : Left). means left × IsSilent a b in
     let stop = stop_of_error c.args.name.now c.in-Err-backup_node.error in
     rw (c.fault_of.ensures, c.in-Ok.ensures, stop_for c.args.name.now c.in-Err-backup_node.error)
-    (asked_plan (asked_of c.args.request.now) c.args.name.now a b (Err stop) c.requires
+    (asked_plan (asked_of c.args.request.now) c.args.name.now a b (Err stop) c.requires.asks
     (inr (
       node_config,
       (c.in_ok-config.config, c.in_ok-config.ensures.ok, refl),
@@ -70,10 +71,10 @@ returns-in-Err-backup_node-clause-ends g c =
 pub returns-in-Ok-backup_node-clause-ends : goal.returns-in-Ok-backup_node-clause-ends
 returns-in-Ok-backup_node-clause-ends g c =
     let a = (world (g.F.Files.state c.args.files.now) (g.N.Nodes.state c.args.nodes.now)
-    (g.S.Storage.state c.args.store.now) (g.S.Storage.stood_since c.args.store.now)
+    (g.S.Storage.state c.args.store.now) (g.S.Storage.stood c.args.store.now)
     (g.O.Sink.state c.args.out.now)) in
     let b = (world (g.F.Files.state c.load.new.files) (g.N.Nodes.state c.backup_node.new.nodes)
-    (g.S.Storage.state c.backup_node.new.store) (g.S.Storage.stood_since c.backup_node.new.store)
+    (g.S.Storage.state c.backup_node.new.store) (g.S.Storage.stood c.backup_node.new.store)
     (g.O.Sink.state c.print_line.new.out)) in
     let node_config = node_config_of c.in_ok-config.config in
     let files = c.in-Ok-backup_node.records.items in
@@ -82,7 +83,7 @@ returns-in-Ok-backup_node-clause-ends g c =
     let means = Leaves a.nodes b.nodes a.store b.store a.stood b.stood in
     let plan = node_plan node_config c.args.name.now a.nodes.snaps a.store.content in
     let word : Left → Type 0 = λ (left : Left). means left × IsSilent a b in
-    asked_plan (asked_of c.args.request.now) c.args.name.now a b end c.requires
+    asked_plan (asked_of c.args.request.now) c.args.name.now a b end c.requires.asks
     (inr (
       node_config,
       (c.in_ok-config.config, c.in_ok-config.ensures.ok, refl),

@@ -14,11 +14,11 @@ use Rattle.med_commands.proofs.main_call.medusa_main.Goals as goal
 pub returns-in-Ok : goal.returns-in-Ok
 returns-in-Ok g c =
     let a = (world (g.F.Files.state c.args.files.now) (g.N.Nodes.state c.args.nodes.now)
-    (g.S.Storage.state c.args.store.now) (g.S.Storage.stood_since c.args.store.now)
+    (g.S.Storage.state c.args.store.now) (g.S.Storage.stood c.args.store.now)
     (g.O.Sink.state c.args.out.now)) in
     let b = (world (g.F.Files.state c.run_command.new.files)
     (g.N.Nodes.state c.run_command.new.nodes)
-    (g.S.Storage.state c.run_command.new.store) (g.S.Storage.stood_since c.run_command.new.store)
+    (g.S.Storage.state c.run_command.new.store) (g.S.Storage.stood c.run_command.new.store)
     (g.O.Sink.state c.run_command.new.out)) in
     let words = map string_bytes c.args.words.now in
     let answer = c.run_command.ensures.answer in
@@ -40,7 +40,7 @@ returns-in-Ok g c =
 pub returns-in-Err-Usage : goal.returns-in-Err-Usage
 returns-in-Err-Usage g c =
     let a = (world (g.F.Files.state c.args.files.now) (g.N.Nodes.state c.args.nodes.now)
-    (g.S.Storage.state c.args.store.now) (g.S.Storage.stood_since c.args.store.now)
+    (g.S.Storage.state c.args.store.now) (g.S.Storage.stood c.args.store.now)
     (g.O.Sink.state c.args.out.now)) in
     let words = map string_bytes c.args.words.now in
     let end : End = Err (Refused (BadWords (usage_text c.in-Err-Usage.usage))) in
@@ -69,7 +69,7 @@ returns-in-Err-Usage g c =
 pub returns-in-Err-Memory : goal.returns-in-Err-Memory
 returns-in-Err-Memory g c =
     let a = (world (g.F.Files.state c.args.files.now) (g.N.Nodes.state c.args.nodes.now)
-    (g.S.Storage.state c.args.store.now) (g.S.Storage.stood_since c.args.store.now)
+    (g.S.Storage.state c.args.store.now) (g.S.Storage.stood c.args.store.now)
     (g.O.Sink.state c.args.out.now)) in
     let words = map string_bytes c.args.words.now in
     let end : End = Err (Failed Memory) in

@@ -11,10 +11,10 @@ use Rattle.med_commands.proofs.main_call.run_command.Goals as goal
 pub returns-in-Ok : goal.returns-in-Ok
 returns-in-Ok g c =
     let a = (world (g.F.Files.state c.args.files.now) (g.N.Nodes.state c.args.nodes.now)
-    (g.S.Storage.state c.args.store.now) (g.S.Storage.stood_since c.args.store.now)
+    (g.S.Storage.state c.args.store.now) (g.S.Storage.stood c.args.store.now)
     (g.O.Sink.state c.args.out.now)) in
     let b = (world (g.F.Files.state c.run.new.files) (g.N.Nodes.state c.run.new.nodes)
-    (g.S.Storage.state c.run.new.store) (g.S.Storage.stood_since c.run.new.store)
+    (g.S.Storage.state c.run.new.store) (g.S.Storage.stood c.run.new.store)
     (g.O.Sink.state c.run.new.out)) in
     record {
       answer = record {
@@ -32,10 +32,10 @@ returns-in-Ok g c =
 pub returns-in-Err : goal.returns-in-Err
 returns-in-Err g c =
     let a = (world (g.F.Files.state c.args.files.now) (g.N.Nodes.state c.args.nodes.now)
-    (g.S.Storage.state c.args.store.now) (g.S.Storage.stood_since c.args.store.now)
+    (g.S.Storage.state c.args.store.now) (g.S.Storage.stood c.args.store.now)
     (g.O.Sink.state c.args.out.now)) in
     let b = (world (g.F.Files.state c.run.new.files) (g.N.Nodes.state c.run.new.nodes)
-    (g.S.Storage.state c.run.new.store) (g.S.Storage.stood_since c.run.new.store)
+    (g.S.Storage.state c.run.new.store) (g.S.Storage.stood c.run.new.store)
     (g.O.Sink.state c.run.new.out)) in
     record {
       answer = record {
