@@ -112,12 +112,7 @@ fn is_got<S: Storage>(alloc: Global, store: &mut S, path: &str, wanted: &str) ->
 }
 
 // The bytes whose fingerprint is told, `absent`, or a refusal.
-fn is_looked_at<S: Storage>(
-    alloc: Global,
-    store: &mut S,
-    path: &str,
-    wanted: &str,
-) -> Option<bool>
+fn is_looked_at<S: Storage>(alloc: Global, store: &mut S, path: &str, wanted: &str) -> Option<bool>
     requires { IsAtRest (S.state store.old) }
     ensures { IsAtRest (S.state store.new) }
 {

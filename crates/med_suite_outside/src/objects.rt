@@ -41,7 +41,12 @@ fn is_listed<R: Files + Clock + AllocGlobal + Clone + Drop>(
     path: &ObjPath,
     stat: &Stat,
 ) -> Option<bool> {
-    match store.list_page(alloc, path.as_str(), None).ok()?.entries.as_slice() {
+    match store
+        .list_page(alloc, path.as_str(), None)
+        .ok()?
+        .entries
+        .as_slice()
+    {
         [entry, ..] => Some(
             entry.path.as_str() == path.as_str()
                 && entry.size == stat.fingerprint.size

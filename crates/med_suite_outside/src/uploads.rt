@@ -34,7 +34,9 @@ fn is_answered<R: Files + Clock + AllocGlobal + Clone + Drop>(
     let (word, rest) = call.split_once(' ').unwrap_or((call, ""));
     let denied = match word {
         "begin" => begin(alloc, store, rest).err(),
-        "append" => store.append(alloc, &piece_of(alloc, rest.as_bytes())?).err(),
+        "append" => store
+            .append(alloc, &piece_of(alloc, rest.as_bytes())?)
+            .err(),
         "commit" => store.commit(alloc).err(),
         "drop" => {
             store.drop_upload();
@@ -220,7 +222,12 @@ fn is_listed<R: Files + Clock + AllocGlobal + Clone + Drop>(
     size: usize,
     second: u64,
 ) -> Option<bool> {
-    match store.list_page(alloc, path.as_str(), None).ok()?.entries.as_slice() {
+    match store
+        .list_page(alloc, path.as_str(), None)
+        .ok()?
+        .entries
+        .as_slice()
+    {
         [entry] => Some(entry.size == size as u64 && entry.second == second),
         _ => Some(false),
     }
@@ -268,7 +275,10 @@ fn first_lost<'a, R: Files + Clock + AllocGlobal + Clone + Drop>(
 #[test]
 fn an_object_is_stored_and_read_in_pieces_byte_for_byte(rt: HostRuntime) {
     let mut store = FolderStore::new(rt.alloc(), rt);
-    assert_eq!(rt; first_wrong(&rt, rt.alloc(), &mut store, "object sized => absent"), None);
+    assert_eq!(rt;
+        first_wrong(&rt, rt.alloc(), &mut store, "object sized => absent"),
+        None
+    );
     let sizes = "0 1 1048575 1048576 1048577";
     assert_eq!(rt; first_lost(rt.alloc(), &mut store, sizes), None);
 }
@@ -276,7 +286,10 @@ fn an_object_is_stored_and_read_in_pieces_byte_for_byte(rt: HostRuntime) {
 #[test]
 fn an_object_of_some_pieces_is_stored_and_read(rt: HostRuntime) {
     let mut store = FolderStore::new(rt.alloc(), rt);
-    assert_eq!(rt; first_wrong(&rt, rt.alloc(), &mut store, "object sized => absent"), None);
+    assert_eq!(rt;
+        first_wrong(&rt, rt.alloc(), &mut store, "object sized => absent"),
+        None
+    );
     assert_eq!(rt; first_lost(rt.alloc(), &mut store, "3145745"), None);
 }
 
