@@ -7,7 +7,7 @@ use med_backup::walk;
 use med_base::{FileKey, Fqdn, NoMemory};
 use med_commands::{run_command, tell_no_memory};
 use med_mem::{MemFiles, MemNodes, MemOpened, MemSink, MemStore};
-use med_outside::Nodes;
+use med_outside::{Nodes, Storage};
 use med_words::{Request, read_words};
 use std::alloc::Global;
 
@@ -85,7 +85,8 @@ fn a_walk_gives_the_keys_in_order(rt: HostRuntime) {
     assert!(rt; is_walked);
 }
 
-// The call that takes a request, of which no more is known here than that it ends.
+// The call that takes a request, of which no more is known here than that it ends. It asks for a
+// storage at rest.
 fn status_of_request(
     alloc: Global,
     request: &Request,
@@ -95,6 +96,7 @@ fn status_of_request(
     out: &mut MemSink,
     err: &mut MemSink,
 ) -> u8 {
+    store.drop_upload();
     run_command(alloc, request, files, store, nodes, out, err)
 }
 

@@ -2,7 +2,7 @@
 use med_base::NoMemory;
 use med_commands::medusa_main;
 use med_mem::{MemFile, MemFiles, MemNodes, MemObject, MemSink, MemSnap, MemStore};
-use med_outside::RawKey;
+use med_outside::{RawKey, Storage};
 use std::alloc::Global;
 
 pub(crate) const NODES: &str = "/var/lib/medusa/nodes";
@@ -194,7 +194,7 @@ pub(crate) fn append_objects(
     Ok(())
 }
 
-// The top call, of which no more is known here than that it ends.
+// The top call, of which no more is known here than that it ends. It asks for a storage at rest.
 fn status(
     alloc: Global,
     words: &[String],
@@ -204,6 +204,7 @@ fn status(
     out: &mut MemSink,
     err: &mut MemSink,
 ) -> u8 {
+    store.drop_upload();
     medusa_main(alloc, words, files, store, nodes, out, err)
 }
 

@@ -168,6 +168,7 @@ fn first_wrong<'a, R: Files + Clock + AllocGlobal + Clone + Drop>(
     store: &mut FolderStore<R>,
     table: &'a str,
 ) -> Option<&'a str> {
+    store.drop_upload();
     match store.open(alloc, "o", "k", &Layout::plain(alloc)) {
         Ok(()) => first_of(rt, alloc, store, table),
         Err(_) => Some("the bucket isn't opened"),

@@ -98,6 +98,7 @@ fn open_many<R: Files + Clock + AllocGlobal + Clone + Drop>(
     store: &mut FolderStore<R>,
     count: u32,
 ) -> Option<()> {
+    store.drop_upload();
     store.open(alloc, "o", "k", &Layout::plain(alloc)).ok()?;
     are_made(rt, alloc, count)
 }

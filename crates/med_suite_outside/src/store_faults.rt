@@ -2,6 +2,7 @@
 use crate::calls::is_answered;
 use med_base::ObjPath;
 use med_mem::{MemStore, MemWhen};
+use med_outside::Storage;
 use std::alloc::Global;
 
 // A row `step NUMBER EFFECT` or `put PATH EFFECT`: the call of that number, or the next put of that
@@ -17,8 +18,10 @@ fn set(alloc: Global, store: &mut MemStore, row: &str) -> Option<()> {
     store.fail(when, effect == "lands").ok()
 }
 
-// A row with an answer is a call of the storage, and one without sets a call to fail.
+// A row with an answer is a call of the storage, and one without sets a call to fail. There is no
+// upload between two rows.
 fn is_right(alloc: Global, store: &mut MemStore, row: &str) -> Option<bool> {
+    store.drop_upload();
     match row.split_once(" => ") {
         Some((call, wanted)) => is_answered(alloc, store, call, wanted),
         None => Some(set(alloc, store, row).is_some()),

@@ -81,6 +81,7 @@ fn first_wrong<'a, R: Files + Clock + AllocGlobal + Clone + Drop>(
     store: &mut FolderStore<R>,
     table: &'a str,
 ) -> Option<&'a str> {
+    store.drop_upload();
     if store.open(alloc, "o", "k", &Layout::plain(alloc)).is_err() {
         return Some("the bucket isn't opened");
     }
