@@ -9,8 +9,6 @@ mod calls;
 #[cfg(test)]
 mod clocks;
 #[cfg(test)]
-mod file_pieces;
-#[cfg(test)]
 mod folders;
 #[cfg(test)]
 mod memory;
@@ -18,10 +16,6 @@ mod memory;
 mod names;
 #[cfg(test)]
 mod node_folders;
-#[cfg(test)]
-mod objects;
-#[cfg(test)]
-mod pages;
 #[cfg(test)]
 mod places;
 #[cfg(test)]
@@ -34,5 +28,3 @@ mod storages;
 mod store_faults;
 #[cfg(test)]
 mod told_faults;
-#[cfg(test)]
-mod uploads;
