@@ -10,7 +10,7 @@ use Rattle.med_base.specs.Key.{key_cmp, key_eq, IsKey}
 use Rattle.med_base.specs.KeyOrder.{key_total}
 use Rattle.med_manifest.specs.declared.manifest.FileRecord.{FileRecord}
 use Rattle.med_manifest.specs.Manifest.{IsPathOf}
-use Rattle.med_outside.specs.Effects.{Effect}
+use Rattle.med_base.specs.Effects.{Effect}
 use Rattle.med_outside.specs.Snapshot.{Snapshot, HasKey}
 use Rattle.med_backup.specs.Copies.{Copy, ArePut}
 use Rattle.std.proofs.lemmas.Bool.{or_right}

@@ -13,7 +13,7 @@ use Rattle.med_manifest.specs.declared.manifest.FileRecord.{FileRecord}
 use Rattle.med_manifest.specs.Manifest.{IsManifest}
 use Rattle.med_manifest.specs.Whole.{HasManifest, IsStoredAs}
 use Rattle.med_manifest.specs.Written.{manifest_text}
-use Rattle.med_outside.specs.Effects.{Effect, Stores, applied}
+use Rattle.med_base.specs.Effects.{Effect, Stores, applied}
 use Rattle.med_outside.specs.Snapshot.{Snapshot}
 use Rattle.med_backup.specs.Backup.{HoldsBytes, IsFileOf, IsBackupOf, AddsAt, paths_of, FinishesBackup}
 use Rattle.med_backup.specs.Copies.{Copy, key_of, put_of, record_of, AreOf, HasAll}

@@ -6,7 +6,7 @@ use Rattle.med_base.specs.declared.key.FileKey.{FileKey}
 use Rattle.med_base.specs.declared.fingerprint.Fingerprint.{Fingerprint}
 use Rattle.med_base.specs.Layout.{own_path}
 use Rattle.med_manifest.specs.declared.manifest.FileRecord.{FileRecord}
-use Rattle.med_outside.specs.Effects.{Effect, Stores}
+use Rattle.med_base.specs.Effects.{Effect, Stores}
 use Rattle.med_outside.specs.Snapshot.{Snapshot, HasKey}
 use Rattle.med_outside.specs.State.{State, ChangesWithin, History}
 use Rattle.med_outside.proofs.Passing.{moves_on}

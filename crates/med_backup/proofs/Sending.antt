@@ -4,7 +4,7 @@ use Rattle.std.specs.Prelude.{is_some, IsTrue}
 use Rattle.std.proofs.lemmas.Bool.{eqb-true, eqb-false}
 use Rattle.std.specs.FinMap.{get}
 use Rattle.med_base.specs.declared.key.FileKey.{FileKey}
-use Rattle.med_outside.specs.Effects.{Effect}
+use Rattle.med_base.specs.Effects.{Effect}
 use Rattle.med_outside.specs.Pieces.{piece_size, piece_at, with_piece, with_upload}
 use Rattle.med_outside.specs.Snapshot.{Snapshot, HasKey}
 use Rattle.med_outside.specs.State.{State, Upload, Changes, ChangesWithin, OnlyReads, History}

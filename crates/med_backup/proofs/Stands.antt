@@ -8,7 +8,7 @@ use Rattle.std.specs.List.{AllByRecursion}
 use Rattle.std.proofs.lemmas.Map.Lookups.{exact_bytes}
 use Rattle.std.proofs.lemmas.Bool.{false_from_ne_true}
 use Rattle.med_base.specs.Content.{Content}
-use Rattle.med_outside.specs.Effects.{Effect, Stores, Removes, made, applied}
+use Rattle.med_base.specs.Effects.{Effect, Stores, Removes, made, applied}
 use Rattle.med_outside.proofs.Passing.{applied-append}
 
 unequal_paths : (p q : List ℕ) → (p ≡ q → ⊥) → eq_by_cmp (slice_cmp nat_cmp) p q ≡ false

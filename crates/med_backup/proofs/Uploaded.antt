@@ -5,7 +5,7 @@ use Rattle.med_base.specs.declared.fingerprint.Fingerprint.{Fingerprint}
 use Rattle.med_base.specs.declared.key.FileKey.{FileKey}
 use Rattle.med_outside.specs.declared.denied.Denied.{Denied}
 use Rattle.med_outside.specs.declared.denied.Denied.TheVariants.{Failed, Memory}
-use Rattle.med_outside.specs.Effects.{Stores}
+use Rattle.med_base.specs.Effects.{Stores}
 use Rattle.med_outside.specs.Pieces.{begun, with_piece, with_upload}
 use Rattle.med_outside.specs.Snapshot.{Snapshot}
 use Rattle.med_outside.specs.State.{State, Upload, ChangesOnce, OnlyReads, IsAtRest, History}

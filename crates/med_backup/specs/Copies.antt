@@ -8,7 +8,7 @@ use Rattle.med_base.specs.Fingerprint.{fingerprint_of}
 use Rattle.med_base.specs.Layout.{own_path, meta_path}
 use Rattle.med_manifest.specs.declared.manifest.FileRecord.{FileRecord}
 use Rattle.med_manifest.specs.Written.{manifest_text}
-use Rattle.med_outside.specs.Effects.{Effect, Stores}
+use Rattle.med_base.specs.Effects.{Effect, Stores}
 use Rattle.med_outside.specs.Snapshot.{Snapshot}
 use Rattle.med_outside.specs.State.{State, ChangesWithin, History}
 

@@ -8,7 +8,7 @@ use Rattle.med_base.specs.Key.{AreRising, IsKey}
 use Rattle.med_base.specs.Layout.{backup_folder}
 use Rattle.med_manifest.specs.declared.manifest.FileRecord.{FileRecord}
 use Rattle.med_outside.specs.Counts.{SnapshotCounts, Tagged, tagged, opened_once}
-use Rattle.med_outside.specs.Effects.{Effect}
+use Rattle.med_base.specs.Effects.{Effect}
 use Rattle.med_outside.specs.Ends.{Device, Nodes, Storage, Memory, Refusal, Taken, NoSnapshot, BadFileName, Plan, last, step, then, said_as}
 use Rattle.med_outside.specs.Snapshot.{Snapshot}
 use Rattle.med_outside.specs.State.{State, History}

@@ -4,7 +4,7 @@ use Rattle.std.specs.FinMap.{get}
 use Rattle.med_base.specs.declared.fingerprint.Fingerprint.{Fingerprint}
 use Rattle.med_base.specs.declared.key.FileKey.{FileKey}
 use Rattle.med_base.specs.Fingerprint.{fingerprint_of}
-use Rattle.med_outside.specs.Effects.{Effect}
+use Rattle.med_base.specs.Effects.{Effect}
 use Rattle.med_outside.specs.Pieces.{piece_size, piece_at, EndsInRange, with_piece, with_upload}
 use Rattle.med_outside.specs.Snapshot.{Snapshot}
 use Rattle.med_outside.specs.State.{State, OnlyReads, History}

@@ -4,6 +4,7 @@ pub mod Cut
 pub mod DataPaths
 pub mod Decimal
 pub mod Digest
+pub mod Effects
 pub mod Entries
 pub mod Fingerprint
 pub mod Key

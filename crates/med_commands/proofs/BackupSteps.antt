@@ -18,7 +18,7 @@ use Rattle.med_ini.specs.declared.errors.IniError.TheVariants as ini
 use Rattle.med_ini.specs.declared.overrides.Overrides.{Overrides}
 use Rattle.med_outside.specs.Causes.{RoseOrFull}
 use Rattle.med_outside.specs.Counts.{opened_once}
-use Rattle.med_outside.specs.Effects.{Effect, after_all}
+use Rattle.med_base.specs.Effects.{Effect, after_all}
 use Rattle.med_outside.specs.Ends.{Device, Files, Nodes, Storage, Output, Memory, StopsAt, Steps, Ends, seen}
 use Rattle.med_outside.specs.Snapshot.{Snapshot}
 use Rattle.med_outside.proofs.EndsLemmas.{stops}

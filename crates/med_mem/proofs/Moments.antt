@@ -2,7 +2,8 @@
 use Rattle.std.proofs.Common.{◌≡◌, ◌∙◌, ◌⊎◌, ◌↔◌, ◌<◌, ◌≤◌, ◌+◌, ℕ, Bool, true, false, leb, List, [], ◌∷◌, ◌++◌, Option, Some, None, Result, Ok, Err, OnErr, refl, sym, ap, inl, inr, arith, leb-true, leb-false}
 use Rattle.std.specs.FinMap.{remove}
 use Rattle.med_base.specs.Content.{Content}
-use Rattle.med_outside.specs.Effects.{Effect, Removes, made, Follows}
+use Rattle.med_base.specs.Effects.{Effect, Removes, made}
+use Rattle.med_outside.specs.Follows.{Follows}
 use Rattle.med_outside.specs.State.{OpenBucket, Upload, Changes, ChangesOnce}
 use Rattle.med_mem.specs.Told.{Note, Told, content_after, content_at, content_of, StoodFrom, stood_of, state_of, AreMadeBy}
 use Rattle.med_mem.specs.Calls.{note_of, Stays}

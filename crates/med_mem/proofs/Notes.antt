@@ -12,7 +12,7 @@ use Rattle.std.proofs.lemmas.List.{map-append, nil_from_length, length-map, leng
 use Rattle.std.proofs.lemmas.Bool.{and_parts}
 use Rattle.std.proofs.lemmas.Map.Lookups.{exact_bytes}
 use Rattle.med_base.specs.Content.{Content, Object}
-use Rattle.med_outside.specs.Effects.{Effect, Stores, Removes, made, applied}
+use Rattle.med_base.specs.Effects.{Effect, Stores, Removes, made, applied}
 use Rattle.med_mem.specs.declared.object.MemObject.{MemObject}
 use Rattle.med_mem.specs.declared.object.Change.{Change}
 use Rattle.med_mem.specs.Objects.{effect_of, pairs, put_at, is_other, without_path, noted, Tells, IsStored, IsNoted, IsRemoved, room_after}

@@ -4,7 +4,7 @@ use Rattle.med_base.specs.Content.{with_object}
 use Rattle.med_outside.specs.Causes.{one_more}
 use Rattle.med_outside.specs.declared.denied.Denied.{Denied}
 use Rattle.med_outside.specs.declared.denied.Denied.TheVariants.{Failed, Memory}
-use Rattle.med_outside.specs.Effects.{Effect, Stores}
+use Rattle.med_base.specs.Effects.{Effect, Stores}
 use Rattle.med_outside.specs.State.{OnlyReads, Upload, bucket_of, opened}
 use Rattle.med_outside.specs.Storage.{Put, Delete}
 use Rattle.med_mem.specs.declared.faults.MemWhen.{MemWhen}

@@ -8,7 +8,7 @@ use Rattle.std.specs.Cmp.Lexicographic.{slice_cmp}
 use Rattle.std.specs.FinMap.{entries}
 use Rattle.std.specs.FinMap.Entries.{put, is_sorted, where_key}
 use Rattle.med_base.specs.Content.{Object, is_under}
-use Rattle.med_outside.specs.Effects.{Effect, Stores, Removes}
+use Rattle.med_base.specs.Effects.{Effect, Stores, Removes}
 use Rattle.med_outside.specs.State.{OpenBucket, Upload}
 use Rattle.med_outside.specs.Storage.{entry_of}
 use Rattle.med_outside.specs.declared.storage.Entry.{Entry}

@@ -4,7 +4,7 @@ use Rattle.std.specs.Prelude.{◌≡◌, ◌≤◌, ℕ, true, nat_le, List, [],
 use Rattle.std.specs.List.{list_all, filter}
 use Rattle.std.specs.FinMap.{empty}
 use Rattle.med_base.specs.Content.{Content}
-use Rattle.med_outside.specs.Effects.{Effect, applied}
+use Rattle.med_base.specs.Effects.{Effect, applied}
 use Rattle.med_outside.specs.State.{State, OpenBucket, Upload, History}
 use Rattle.med_mem.specs.declared.faults.MemFault.{MemFault}
 

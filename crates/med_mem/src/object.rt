@@ -4,7 +4,7 @@ ghost use Rattle.std.specs.Ordering.{nat_cmp};
 ghost use Rattle.std.specs.Cmp.Lexicographic.{slice_cmp};
 ghost use Rattle.std.specs.FinMap.Entries.{find};
 ghost use Rattle.med_base.specs.Content.{Object, is_under};
-ghost use Rattle.med_outside.specs.Effects.{Stores, Removes};
+ghost use Rattle.med_base.specs.Effects.{Stores, Removes};
 ghost use Rattle.med_outside.specs.Pieces.{piece_at, EndsInRange};
 ghost use Rattle.med_outside.specs.Storage.{stat_of};
 ghost use Rattle.med_mem.specs.Calls.{note_of};

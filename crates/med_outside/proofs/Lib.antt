@@ -1,3 +1,6 @@
 pub mod EndsLemmas
+pub mod Making
+pub mod Moments
 pub mod OpenPlaces
 pub mod Passing
+pub mod Recording

@@ -1,7 +1,8 @@
 -- Calls in a row: what they change together.
 use Rattle.std.proofs.Common.{◌≡◌, inl, inr, ℕ, Bool, List, [], ◌∷◌, ◌++◌, Option, Some, None, Result, Ok, Err, IfOk, OnOk, OnErr, refl, sym, ap, ◌∙◌, arith, append_assoc, subst}
 use Rattle.med_base.specs.Content.{Content}
-use Rattle.med_outside.specs.Effects.{Effect, Stores, Removes, made, applied, after_all, IsMoment, Follows}
+use Rattle.med_base.specs.Effects.{Effect, Stores, Removes, made, applied, after_all, IsMoment}
+use Rattle.med_outside.specs.Follows.{Follows}
 use Rattle.med_outside.specs.State.{State, OpenBucket, Changes, ChangesWithin, ChangesOnce, OnlyReads, IsAtRest, MayChange, with_bucket, opened, History}
 use Rattle.med_outside.specs.Storage.{Put, MayPut, Delete, MayDelete}
 use Rattle.med_outside.specs.declared.denied.Denied.{Denied}

@@ -1,10 +1,12 @@
 pub mod Causes
 pub mod Counts
-pub mod Effects
 pub mod Ends
+pub mod Follows
+pub mod Makes
 pub mod OpenPlaces
 pub mod Pages
 pub mod Pieces
+pub mod Recorded
 pub mod Sink
 pub mod Snapshot
 pub mod State

@@ -1,9 +1,11 @@
 -- What a storage means, but for the contents that stood, and what a call leaves of it.
-use Rattle.std.specs.Prelude.{◌≡◌, ◌⊎◌, ◌≤◌, ◌+◌, ◌↔◌, ℕ, Bool, List, [], map, Contains, Option, Some, None, IfSome, Result}
+use Rattle.std.specs.Prelude.{◌≡◌, ◌⊎◌, ◌≤◌, ◌+◌, ◌↔◌, ℕ, Bool, false, List, [], map, Contains, Option, Some, None, IfSome, Result}
+use Rattle.med_base.specs.Classify.{is_data}
 use Rattle.med_base.specs.Content.{Content}
 use Rattle.med_base.specs.Part.{owner_of}
 use Rattle.med_outside.specs.Causes.{HasCause, one_more}
-use Rattle.med_outside.specs.Effects.{Effect, after_all, IsMoment, Follows}
+use Rattle.med_base.specs.Effects.{Effect, after_all, IsMoment}
+use Rattle.med_outside.specs.Follows.{Follows}
 use Rattle.med_outside.specs.declared.denied.Denied.{Denied}
 
 -- the bucket that is open; only `open` changes it
@@ -108,6 +110,10 @@ IsLent owner terms = Contains (map (λ (l : Lent). l.owner) terms.lent) owner
 abbrev pub MayChange : List ℕ → Terms → Type 0
 MayChange path terms =
     (owner : List ℕ) → owner_of terms.bucket.layout path ≡ Some owner → ¬ (IsLent owner terms)
+
+-- the path isn't that of a data object, under the layout of the bucket that is open
+abbrev pub IsNoData : List ℕ → Terms → Type 0
+IsNoData path terms = is_data terms.bucket.layout path ≡ false
 
 -- no paths are lent, and nothing is being uploaded
 pub record IsAtRest (s : State) : Type 0 where

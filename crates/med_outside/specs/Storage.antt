@@ -3,7 +3,7 @@ use Rattle.std.specs.Prelude.{◌≡◌, ◌⊎◌, ℕ, List, [], ◌∷◌, ma
 use Rattle.std.specs.FinMap.{get}
 use Rattle.med_base.specs.Content.{Content, Object, objects_under}
 use Rattle.med_base.specs.Fingerprint.{fingerprint_of}
-use Rattle.med_outside.specs.Effects.{Stores, Removes}
+use Rattle.med_base.specs.Effects.{Stores, Removes}
 use Rattle.med_outside.specs.State.{State, ChangesOnce, History}
 use Rattle.med_outside.specs.declared.storage.Entry.{Entry}
 use Rattle.med_outside.specs.declared.storage.Stat.{Stat}

@@ -6,20 +6,26 @@
 //! Read `specs/State.antt` and `specs/Storage.antt` first.
 #![tactic(auto)]
 
+mod backup_row;
 mod denied;
 mod files;
 mod mode;
 mod nodes;
 mod opened;
 mod piece;
+mod recorded;
 mod sink;
 mod storage;
+mod trace;
 
+pub use backup_row::BackupRow;
 pub use denied::Denied;
 pub use files::Files;
 pub use mode::Mode;
 pub use nodes::{Nodes, RawKey, Snap};
 pub use opened::{OpenSnapshots, OpenedFor};
 pub use piece::{PIECE, Piece};
+pub use recorded::{delete_recorded, put_recorded};
 pub use sink::{Sink, SinkFailed};
 pub use storage::{Entry, Page, PageEnd, Stat, Storage};
+pub use trace::{Change, Section, Text, Trace};

@@ -2,7 +2,7 @@
 ghost use Rattle.std.specs.Prelude.{◌≡◌, ◌≤◌, ℕ, [], Some, None, is_some, IsTrue, IfOk, IfSome, OnOk, OnErr, IsErrOf, option_map};
 ghost use Rattle.med_base.specs.Content.{Content};
 ghost use Rattle.med_outside.specs.declared.denied.Denied.TheVariants.{Failed, Memory};
-ghost use Rattle.med_outside.specs.State.{State, History, ChangesOnce, OnlyReads, IsCalled, IsAtRest, MayChange, opened, with_room};
+ghost use Rattle.med_outside.specs.State.{State, History, ChangesOnce, OnlyReads, IsCalled, IsAtRest, IsNoData, MayChange, opened, with_room};
 ghost use Rattle.med_outside.specs.Pages.{CountsDown, CountsRight, IsPage, shown};
 ghost use Rattle.med_outside.specs.Pieces.{AnswersPiece, EndsInRange, begun, with_piece, with_upload};
 ghost use Rattle.med_outside.specs.Storage.{IsToldAs, AnswersStat, AnswersBytes, Put, MayPut, Delete, MayDelete};
@@ -82,8 +82,10 @@ pub trait Storage: Sized {
             (stood self.new) }
         ensures called { IsCalled (state self.old) (state self.new) result };
 
-    /// The bytes of the object, and `None` exactly where no object has the path.
+    /// The bytes of the object, which isn't a data object, and `None` exactly where no object has the
+    /// path.
     fn get(&mut self, alloc: Global, path: &ObjPath) -> Result<Option<Vec<u8>>, Denied>
+        requires { IsNoData path.now (state self.old).terms }
         ensures answer { IfOk result
             (λ found. AnswersBytes path.now (state self.old).content
             (option_map (λ bytes. bytes.items) found)) }
@@ -91,11 +93,12 @@ pub trait Storage: Sized {
             (stood self.new) }
         ensures called { IsCalled (state self.old) (state self.new) result };
 
-    /// Stores the bytes under the path, in place of an object that was there, with the second that
-    /// `now` gives, and answers that second. After `Failed` the object was stored or it wasn't;
+    /// Stores the bytes under the path, which isn't that of a data object, in place of an object that
+    /// was there, with the second that `now` gives, and answers that second. After `Failed` the object was stored or it wasn't;
     /// after `Memory` it wasn't.
     fn put(&mut self, alloc: Global, path: &ObjPath, bytes: &[u8]) -> Result<u64, Denied>
-        requires { MayChange path.now (state self.old).terms }
+        requires free { MayChange path.now (state self.old).terms }
+        requires no_data { IsNoData path.now (state self.old).terms }
         ensures ok { IfOk result
             (Put path.now bytes.now (state self.old) (state self.new) (stood self.old)
             (stood self.new)) }

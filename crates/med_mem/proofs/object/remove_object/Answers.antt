@@ -1,7 +1,7 @@
 use Rattle.std.proofs.Common.{◌∙◌, refl, ℕ, List, [], ◌∷◌, ◌++◌, ap}
 use Rattle.std.proofs.lemmas.List.{map-append}
 use Rattle.std.proofs.lemmas.Map.Lookups.{exact_bytes}
-use Rattle.med_outside.specs.Effects.{Removes}
+use Rattle.med_base.specs.Effects.{Removes}
 use Rattle.med_mem.specs.Calls.{note_of}
 use Rattle.med_mem.specs.Objects.{pairs, noted, compared}
 use Rattle.med_mem.proofs.Places.{removed, absent}

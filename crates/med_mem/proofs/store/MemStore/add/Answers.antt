@@ -1,5 +1,5 @@
 use Rattle.std.proofs.Common.{◌+◌, arith}
-use Rattle.med_outside.specs.Effects.{Stores}
+use Rattle.med_base.specs.Effects.{Stores}
 use Rattle.med_mem.proofs.Notes.{tells_stored, room_falls}
 use Rattle.med_mem.proofs.Moments.{gains}
 use Rattle.med_mem.proofs.store.MemStore.add.Goals as goal

@@ -1,5 +1,5 @@
 use Rattle.std.proofs.Common.{Ok, refl, ap, arith}
-use Rattle.med_outside.specs.Effects.{Stores}
+use Rattle.med_base.specs.Effects.{Stores}
 use Rattle.med_mem.proofs.Notes.{tells_later, tells_same, tells_stored, room_stays, room_falls}
 use Rattle.med_mem.proofs.Moments.{only_reads, only_reads_again, makes_one}
 use Rattle.med_mem.proofs.CallLemmas.{leaves_done, leaves_at_once, leaves_memory}

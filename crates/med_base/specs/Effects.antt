@@ -1,5 +1,5 @@
--- Changes of a storage's content as data, and what a list of them leaves.
-use Rattle.std.specs.Prelude.{◌≡◌, ◌≤◌, ℕ, Bool, List, [], ◌∷◌, ◌++◌, Option, Some, None, option_map, IsTrue}
+-- Changes of a content as data, and what a list of them leaves.
+use Rattle.std.specs.Prelude.{◌≡◌, ℕ, List, [], ◌∷◌, ◌++◌, Option, Some, option_map}
 use Rattle.std.specs.FinMap.{remove}
 use Rattle.med_base.specs.Content.{Content, with_object}
 
@@ -28,14 +28,3 @@ pub record IsMoment (xs : List Effect) (told : Option Content) (c : Content) : T
   pub later : List Effect
   pub split : xs ≡ first ++ later
   pub held : after_all first told ≡ Some c
-
--- what is told of the second after them: each put has the second that was told, and the next one is
--- no lower where the second never falls; what isn't told stays so
-abbrev pub Follows : (never_falls : Bool) → Option ℕ → List Effect → Option ℕ → Type 0
-Follows never_falls told [] now = now ≡ told
-Follows never_falls None (x ∷ xs) now = now ≡ None
-Follows never_falls (Some second) (Stores path bytes at ∷ xs) now =
-    (at ≡ second) × ((next : ℕ) × (IsTrue never_falls → second ≤ next)
-    × Follows never_falls (Some next) xs now)
-Follows never_falls (Some second) (Removes path ∷ xs) now =
-    Follows never_falls (Some second) xs now
