@@ -1,6 +1,6 @@
 -- Calls in a row that change a storage: which list they make together.
-use Rattle.std.proofs.Common.{◌≡◌, ◌⊎◌, inl, inr, ◌≤◌, ◌+◌, ℕ, Bool, true, false, List, [], ◌∷◌, ◌++◌, map, Option, Some, None, Result, Ok, Err, IsOk, refl, sym, ap, ◌∙◌, arith, append_assoc, append-nil, subst, absurd}
-use Rattle.med_outside.specs.Effects.{Effect, Stores, Removes, after_all}
+use Rattle.std.proofs.Common.{◌≡◌, ◌⊎◌, inl, inr, ◌≤◌, ◌+◌, ℕ, Bool, true, false, List, [], ◌∷◌, ◌++◌, map, Option, Some, None, Result, Ok, Err, IsOk, refl, sym, ap, ◌∙◌, arith, append_assoc, append-nil, subst}
+use Rattle.med_base.specs.Effects.{Effect, Stores, Removes, after_all}
 use Rattle.med_outside.specs.State.{State, ChangesWithin, ChangesOnce, History}
 use Rattle.med_outside.specs.Storage.{Put, MayPut, Delete, MayDelete}
 use Rattle.med_outside.specs.Makes.{Last, Sure, Unsure, tried, took, is_unsure, seen, seen_unsure, Records, Makes}
@@ -18,14 +18,14 @@ module _ (layout : List ℕ) where
   records_on xs ys last t0 t1 t2 a b = record {
     changes =
         let first = a.changes
-            ∙ ap (λ l. t0.changes.items ++ l) (append-nil (map (seen layout) xs)) in
+        ∙ ap (λ l. t0.changes.items ++ l) (append-nil (map (seen layout) xs)) in
         let end = map (seen_unsure layout) (tried last) in
         b.changes
         ∙ ap (λ l. l ++ (map (seen layout) ys ++ end)) first
         ∙ append_assoc t0.changes.items (map (seen layout) xs) (map (seen layout) ys ++ end)
         ∙ ap (λ l. t0.changes.items ++ l)
-          (sym (append_assoc (map (seen layout) xs) (map (seen layout) ys) end)
-          ∙ ap (λ l. l ++ end) (sym (map-append (seen layout) xs ys)));
+        (sym (append_assoc (map (seen layout) xs) (map (seen layout) ys) end)
+        ∙ ap (λ l. l ++ end) (sym (map-append (seen layout) xs ys)));
     unsure = b.unsure;
   }
 
@@ -147,7 +147,7 @@ module _ (fine fault : Type 0) (s0 s1 : State) (p0 p1 : History) (t0 t1 : Trace)
   -- a put that answered `Failed`
   pub put_unsure : (path bytes : List ℕ) → (fine → ⊥) → fault
       → ((at : ℕ) → t1.changes.items
-          ≡ t0.changes.items ++ seen_unsure s0.terms.bucket.layout (Stores path bytes at) ∷ [])
+      ≡ t0.changes.items ++ seen_unsure s0.terms.bucket.layout (Stores path bytes at) ∷ [])
       → t1.unsure ≡ true → MayPut path bytes s0 s1 p0 p1
       → (at : ℕ) × Makes fine fault (Stores path bytes at ∷ []) s0 s1 p0 p1 t0 t1
   put_unsure path bytes not_fine blame more unsure may = elim may [
@@ -159,7 +159,7 @@ module _ (fine fault : Type 0) (s0 s1 : State) (p0 p1 : History) (t0 t1 : Trace)
   -- a delete that answered `Failed`
   pub delete_unsure : (path : List ℕ) → (fine → ⊥) → fault
       → t1.changes.items
-          ≡ t0.changes.items ++ seen_unsure s0.terms.bucket.layout (Removes path) ∷ []
+      ≡ t0.changes.items ++ seen_unsure s0.terms.bucket.layout (Removes path) ∷ []
       → t1.unsure ≡ true → MayDelete path s0 s1 p0 p1
       → Makes fine fault (Removes path ∷ []) s0 s1 p0 p1 t0 t1
   delete_unsure path not_fine blame more unsure may = elim may [

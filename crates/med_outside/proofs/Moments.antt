@@ -1,7 +1,7 @@
 -- What a list of changes that is being made says of each moment: a first part of it was made.
 use Rattle.std.proofs.Common.{◌≡◌, ◌⊎◌, inl, inr, ◌≤◌, ◌+◌, ℕ, Bool, true, false, List, [], ◌∷◌, ◌++◌, Option, Some, None, refl, sym, ap, ◌∙◌, arith, append_assoc, append-nil, subst}
 use Rattle.med_base.specs.Content.{Content}
-use Rattle.med_outside.specs.Effects.{Effect, made, applied, after_all, IsMoment}
+use Rattle.med_base.specs.Effects.{Effect, made, applied, after_all, IsMoment}
 use Rattle.med_outside.specs.State.{State, History}
 use Rattle.med_outside.specs.Makes.{Last, Sure, Unsure, tried, took, Makes}
 use Rattle.med_outside.specs.declared.trace.Trace.{Trace}
@@ -51,11 +51,11 @@ module _ (fine fault : Type 0) (xs : List Effect) (s0 s1 : State) (p0 p1 : Histo
       (c : Content) → p1 s0.step s1.step c → IsMoment xs s0.content c
   stood_is_moment only c stood = elim (m.moves.passes.moments s0.step c (omega arith) stood) [
     | inl before ↦ record {
-        first = [];
-        later = xs;
-        split = refl;
-        held = ap (after_all []) (only c before);
-      }
+      first = [];
+      later = xs;
+      split = refl;
+      held = ap (after_all []) (only c before);
+    }
     | inr at ↦ more c at
   ]
     where

@@ -2,7 +2,7 @@
 use Rattle.std.specs.Prelude.{◌≡◌, ◌++◌, ◌-◌, ℕ, Bool, true, false, List, [], ◌∷◌, map, Option, Some, None, Result, IfOk, OnOk, IsOk, Ok, Err, vec_len, vec_capacity}
 use Rattle.med_base.specs.Classify.{is_data}
 use Rattle.med_base.specs.Fingerprint.{fingerprint_of}
-use Rattle.med_outside.specs.Effects.{Effect, Stores, Removes}
+use Rattle.med_base.specs.Effects.{Effect, Stores, Removes}
 use Rattle.med_outside.specs.State.{State, ChangesWithin, History}
 use Rattle.med_outside.specs.declared.trace.Change.{Change}
 use Rattle.med_outside.specs.declared.trace.Change.TheVariants.{Put, Delete}

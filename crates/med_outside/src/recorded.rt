@@ -62,6 +62,18 @@ fn record_put(trace: &mut Trace, ready: ReadyPut, second: Option<u64>)
     }
 }
 
+// Makes ready the record of a delete: a copy of the path, and a place in the trace.
+fn ready_delete(alloc: Global, path: &ObjPath, trace: &mut Trace) -> Result<ObjPath, NoMemory>
+    ensures ready { IfOk result (λ copy. copy ≡ path.now) }
+    ensures room { OnOk result (1 ≤ spare trace.new) }
+    ensures changes { trace.new.changes.items ≡ trace.old.changes.items }
+    ensures unsure { trace.new.unsure ≡ trace.old.unsure }
+{
+    let copy = path.copy(alloc)?;
+    trace.reserve(1)?;
+    Ok(copy)
+}
+
 // Records a delete, in the place that was reserved.
 fn record_delete(trace: &mut Trace, path: ObjPath, is_unsure: bool)
     requires { 1 ≤ spare trace.old }
@@ -124,8 +136,10 @@ pub fn delete_recorded<S: Storage>(
     ensures sure { OnOk result (trace.new.unsure ≡ false) }
     ensures cause { HasCause (S.state store.old).faults (S.state store.new).faults result }
 {
-    let copy = path.copy(alloc)?;
-    trace.reserve(1)?;
+    let copy = match ready_delete(alloc, path, trace) {
+        Ok(copy) => copy,
+        Err(NoMemory) => return Err(Denied::Memory),
+    };
     match store.delete(alloc, path) {
         Ok(()) => {
             record_delete(trace, copy, false);

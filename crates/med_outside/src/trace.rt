@@ -49,7 +49,9 @@ pub enum Change {
         text: Option<Text>,
     },
     /// No object has the path.
-    Delete { path: ObjPath },
+    Delete {
+        path: ObjPath,
+    },
 }
 
 /// The changes that calls made, in order.
