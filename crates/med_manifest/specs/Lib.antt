@@ -1,6 +1,11 @@
+pub mod EntryPuts
+pub mod Index
+pub mod Listed
 pub mod Manifest
+pub mod Mend
 pub mod Named
 pub mod Places
+pub mod Rebuild
 pub mod Refusals
 pub mod Seen
 pub mod Vault

@@ -1,0 +1,11 @@
+pub mod After
+pub mod Claim
+pub mod Exact
+pub mod Finish
+pub mod Outside
+pub mod Place
+pub mod Reach
+pub mod Removal
+pub mod Run
+pub mod Safe
+pub mod Section

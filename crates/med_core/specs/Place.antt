@@ -1,0 +1,67 @@
+-- The change of a place: a file of a snapshot is stored, or a stored one is reused.
+use Rattle.std.specs.Prelude.{ℕ, Bool, true, false, ◌&&◌, ◌==◌, List, [], ◌∷◌, Option, Some, None, if◌then◌else◌, bytes_eq}
+use Rattle.std.specs.FinMap.{get}
+use Rattle.med_base.specs.declared.fingerprint.Fingerprint.{Fingerprint}
+use Rattle.med_base.specs.declared.key.FileKey.{FileKey}
+use Rattle.med_base.specs.Content.{Content, Object}
+use Rattle.med_base.specs.Effects.{Effect, Stores}
+use Rattle.med_base.specs.Fingerprint.{fingerprint_of}
+use Rattle.med_base.specs.Layout.{shared_path, own_path}
+use Rattle.med_manifest.specs.declared.manifest.FileRecord.{FileRecord}
+
+-- the changes of a place, and the record of the file
+pub record Placing : Type 0 where
+  pub changes : List Effect
+  pub file : FileRecord
+
+abbrev pub is_same_print : Fingerprint → Fingerprint → Bool
+is_same_print a b = (a.size == b.size) && bytes_eq a.md5 b.md5
+
+-- the file is stored as a shared one
+abbrev pub stored : (before f : List ℕ) (key : FileKey) (bytes : List ℕ) (second : ℕ) → Placing
+stored before f key bytes second = record {
+  changes = Stores (shared_path before f key) bytes second ∷ [];
+  file = record {
+    key = key;
+    path = shared_path before f key;
+    fingerprint = fingerprint_of bytes;
+  };
+}
+
+-- the file is stored as the backup's own
+abbrev pub stored_aside : (before f n : List ℕ) (key : FileKey) (bytes : List ℕ) (second : ℕ)
+    → Placing
+stored_aside before f n key bytes second = record {
+  changes = Stores (own_path before f n key) bytes second ∷ [];
+  file = record {
+    key = key;
+    path = own_path before f n key;
+    fingerprint = fingerprint_of bytes;
+  };
+}
+
+-- the shared file that stands is named
+abbrev pub reused : (before f : List ℕ) (key : FileKey) (bytes : List ℕ) → Placing
+reused before f key bytes = record {
+  changes = [];
+  file = record {
+    key = key;
+    path = shared_path before f key;
+    fingerprint = fingerprint_of bytes;
+  };
+}
+
+-- by what stands under the shared path: nothing, a file with this fingerprint, or another one
+abbrev pub placing_over : (before f n : List ℕ) (key : FileKey) (bytes : List ℕ) (second : ℕ)
+    → Option Object → Placing
+placing_over before f n key bytes second None = stored before f key bytes second
+placing_over before f n key bytes second (Some o) =
+    if is_same_print (fingerprint_of o.bytes) (fingerprint_of bytes)
+    then reused before f key bytes else stored_aside before f n key bytes second
+
+-- a place in a differential backup, and in a full one; `second` is that of the put
+abbrev pub placing : (before f n : List ℕ) (is_differential : Bool) (key : FileKey)
+    (bytes : List ℕ) (second : ℕ) → Content → Placing
+placing before f n true key bytes second c =
+    placing_over before f n key bytes second (get c (shared_path before f key))
+placing before f n false key bytes second c = stored_aside before f n key bytes second
