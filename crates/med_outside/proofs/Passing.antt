@@ -3,7 +3,7 @@ use Rattle.std.proofs.Common.{◌≡◌, inl, inr, ℕ, Bool, List, [], ◌∷�
 use Rattle.med_base.specs.Content.{Content}
 use Rattle.med_base.specs.Effects.{Effect, Stores, Removes, made, applied, after_all, IsMoment}
 use Rattle.med_outside.specs.Follows.{Follows}
-use Rattle.med_outside.specs.State.{State, OpenBucket, Changes, ChangesWithin, ChangesOnce, OnlyReads, IsAtRest, MayChange, with_bucket, opened, History}
+use Rattle.med_outside.specs.State.{State, OpenBucket, Changes, ChangesWithin, ChangesOnce, OnlyReads, IsAtRest, IsReady, MayChange, with_bucket, opened, History}
 use Rattle.med_outside.specs.Storage.{Put, MayPut, Delete, MayDelete}
 use Rattle.med_outside.specs.declared.denied.Denied.{Denied}
 use Rattle.med_outside.specs.declared.denied.Denied.TheVariants.{Failed, Memory}
@@ -134,6 +134,14 @@ pub rests_on : (xs : List Effect) (s0 s1 : State) (p0 p1 : History)
 rests_on xs s0 s1 p0 p1 moves rest = record {
   lent = ap (λ t. t.lent) moves.terms ∙ rest.lent;
   upload = moves.upload ∙ rest.upload;
+}
+
+-- what is ready stays so after changes
+pub ready_on : (layout : List ℕ) (xs : List Effect) (s0 s1 : State) (p0 p1 : History)
+    → ChangesWithin xs s0 s1 p0 p1 → IsReady layout s0 → IsReady layout s1
+ready_on layout xs s0 s1 p0 p1 moves ready = record {
+  rest = rests_on xs s0 s1 p0 p1 moves ready.rest;
+  layout_is = ap (λ t. t.bucket.layout) moves.terms ∙ ready.layout_is;
 }
 
 -- after a call that opens a bucket

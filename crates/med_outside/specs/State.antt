@@ -120,6 +120,12 @@ pub record IsAtRest (s : State) : Type 0 where
   pub lent : s.terms.lent ≡ []
   pub upload : s.upload ≡ None
 
+-- a call may change it for a node under this layout: it is at rest, and the layout is that of the
+-- bucket that is open
+pub record IsReady (layout : List ℕ) (s : State) : Type 0 where
+  pub rest : IsAtRest s
+  pub layout_is : s.terms.bucket.layout ≡ layout
+
 -- ---- the same storage, but for one meaning
 
 abbrev pub with_bucket : OpenBucket → State → State

@@ -1,0 +1,13 @@
+//! The index of the backups of a node: what a bucket tells of them without reading each one.
+//!
+//! Each call that changes the storage makes one list of changes, and says with the word `Makes` of
+//! med_outside how far it came. The lists stand in med_manifest. Read `specs/Mend.antt`,
+//! `specs/EntryPuts.antt` and `specs/Index.antt` there first.
+#![tactic(auto)]
+
+mod entries;
+mod errors;
+mod put;
+
+pub use entries::{finish_entries, start_entries};
+pub use errors::ListError;
