@@ -122,7 +122,7 @@ own_told before f n key h m k =
     (parts_around (codes "data") (nested key) (no_slash_by_test (codes "data") refl))
     ∙ ap (λ o. unwrap_or (option_map (Own f n) o) (Stray f (Some n))) (key_made key k)
 
-meta_told : (before f n : List ℕ) (kind : MetaKind) → IsFqdn f → IsBackupName n
+pub meta_told : (before f n : List ℕ) (kind : MetaKind) → IsFqdn f → IsBackupName n
     → kind_of before (meta_path before f n kind) ≡ Meta f n kind
 meta_told before f n kind h m =
     ap (kind_of before) (meta_flat before f n kind)
@@ -144,7 +144,7 @@ entry_parts folder n name a b c =
 abbrev pub entry_if_fqdn : List ℕ → List ℕ × IndexKind → Option Kind
 entry_if_fqdn n e = cond (is_none (fqdn_fault e.0)) (Some (Entry e.0 n e.1)) None
 
-entry_told : (before f n : List ℕ) (kind : IndexKind) → IsFqdn f → IsBackupName n → HasSecond kind
+pub entry_told : (before f n : List ℕ) (kind : IndexKind) → IsFqdn f → IsBackupName n → HasSecond kind
     → kind_of before (entry_path before f n kind) ≡ Entry f n kind
 entry_told before f n kind h m s =
     let name = entry_file f kind in
@@ -159,7 +159,7 @@ entry_told before f n kind h m s =
     ∙ ap (option_and_then (entry_if_fqdn n)) (entry_made f kind s)
     ∙ cond-true (is_none (fqdn_fault f)) (Some (Entry f n kind)) None (ap is_none h))
 
-latest_told : (before f : List ℕ) (kind : LatestKind) → IsFqdn f
+pub latest_told : (before f : List ℕ) (kind : LatestKind) → IsFqdn f
     → kind_of before (latest_path before f kind) ≡ Latest f kind
 latest_told before f kind h =
     let name = latest_file kind in

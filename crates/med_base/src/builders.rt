@@ -1,5 +1,7 @@
 // The paths of shared files, of the index and of the latest backups, and the other folders.
-ghost use Rattle.std.specs.Prelude.{◌≡◌, IfOk, string_bytes};
+ghost use Rattle.std.specs.Prelude.{◌≡◌, IfOk, OnOk, string_bytes};
+ghost use Rattle.med_base.specs.Classify.{kind_of};
+ghost use Rattle.med_base.specs.Kinds.{Entry, Latest, IsFqdn, IsBackupName, HasSecond};
 ghost use Rattle.med_base.specs.Layout.{shared_path, entry_file, entry_path, latest_file, latest_path, node_folder, index_folder};
 
 use crate::{BackupName, FileKey, Fqdn, IndexKind, LatestKind, Layout, NoMemory, ObjPath};
@@ -24,7 +26,8 @@ impl Layout {
         n: &BackupName,
         kind: IndexKind,
     ) -> Result<ObjPath, NoMemory>
-        ensures { IfOk result (λ path. path ≡ entry_path self.now f.now n.now kind) }
+        ensures path { IfOk result (λ path. path ≡ entry_path self.now f.now n.now kind) }
+        ensures kind { IfOk result (λ path. kind_of self.now path ≡ Entry f.now n.now kind) }
     {
         let folder = self.index_folder(alloc, n)?;
         let file = entry_name(alloc, f, kind)?;
@@ -34,7 +37,8 @@ impl Layout {
 
     /// The path of an object that tells of the latest backup of a node.
     pub fn latest(&self, alloc: Global, f: &Fqdn, kind: LatestKind) -> Result<ObjPath, NoMemory>
-        ensures { IfOk result (λ path. path ≡ latest_path self.now f.now kind) }
+        ensures path { IfOk result (λ path. path ≡ latest_path self.now f.now kind) }
+        ensures kind { IfOk result (λ path. kind_of self.now path ≡ Latest f.now kind) }
     {
         let before = self.before();
         let f = f.as_str();
@@ -54,7 +58,8 @@ impl Layout {
 
     /// The folder of a backup in the index, with a slash at its end.
     pub fn index_folder(&self, alloc: Global, n: &BackupName) -> Result<String, NoMemory>
-        ensures { IfOk result (λ text. string_bytes text ≡ index_folder self.now n.now) }
+        ensures text { IfOk result (λ text. string_bytes text ≡ index_folder self.now n.now) }
+        ensures name { OnOk result (IsBackupName n.now) }
     {
         let before = self.before();
         let n = n.as_str();
@@ -63,7 +68,9 @@ impl Layout {
 }
 
 fn entry_name(alloc: Global, f: &Fqdn, kind: IndexKind) -> Result<String, NoMemory>
-    ensures { IfOk result (λ text. string_bytes text ≡ entry_file f.now kind) }
+    ensures text { IfOk result (λ text. string_bytes text ≡ entry_file f.now kind) }
+    ensures node { OnOk result (IsFqdn f.now) }
+    ensures second { OnOk result (HasSecond kind) }
 {
     let f = f.as_str();
     Ok(match kind {

@@ -1,5 +1,7 @@
 // Where each object of a backup lies.
 ghost use Rattle.std.specs.Prelude.{◌≡◌, [], None, IfOk, OnOk, IfErr, string_bytes};
+ghost use Rattle.med_base.specs.Classify.{kind_of};
+ghost use Rattle.med_base.specs.Kinds.{Meta};
 ghost use Rattle.med_base.specs.Names.{Blames};
 ghost use Rattle.med_base.specs.Prefix.{prefix_fault, before_of};
 ghost use Rattle.med_base.specs.Layout.{own_path, meta_path, meta_file, backup_folder};
@@ -97,7 +99,8 @@ impl Layout {
         n: &BackupName,
         kind: MetaKind,
     ) -> Result<ObjPath, NoMemory>
-        ensures { IfOk result (λ path. path ≡ meta_path self.now f.now n.now kind) }
+        ensures path { IfOk result (λ path. path ≡ meta_path self.now f.now n.now kind) }
+        ensures kind { IfOk result (λ path. kind_of self.now path ≡ Meta f.now n.now kind) }
     {
         let before = self.before.as_str();
         let (f, n) = (f.as_str(), n.as_str());

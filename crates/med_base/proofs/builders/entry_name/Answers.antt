@@ -19,8 +19,8 @@ finished : (f : List ℕ) (t : ℕ)
     (Finished t)
 finished f t = simp append_assoc
 
-pub returns : goal.returns
-returns c = elim c.match-kind.branch [
+pub returns-clause-text : goal.returns-clause-text
+returns-clause-text c = elim c.match-kind.branch [
   | in-Tokenmap+in_ok-format-in-Tokenmap w ↦
       ap string_bytes w.result-is ∙ w.in_ok-format-in-Tokenmap.ensures.ok ∙ tokenmap _
       ∙ ap₂ entry_file c.as_str-f.ensures.value (sym w.in-Tokenmap.is)
