@@ -17,3 +17,4 @@ pub mod Parts
 pub mod Paths
 pub mod PieceLemmas
 pub mod Slashes
+pub mod WhyLemmas

@@ -12,6 +12,7 @@ pub mod KeyOrder
 pub mod KindRelation
 pub mod Kinds
 pub mod Layout
+pub mod Memory
 pub mod Names
 pub mod Part
 pub mod Prefix

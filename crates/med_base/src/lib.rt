@@ -35,6 +35,6 @@ pub use key::FileKey;
 pub use kinds::{IndexKind, LatestKind, PathKind};
 pub use laws::{builders_and_data, builders_and_kinds};
 pub use layout::{Layout, MetaKind};
-pub use memory::NoMemory;
+pub use memory::{NoMemory, OrMemory};
 pub use names::{BackupName, Fqdn, NameError};
 pub use path::ObjPath;

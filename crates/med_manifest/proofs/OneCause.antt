@@ -6,7 +6,6 @@ use Rattle.med_base.proofs.Cuts.{Cuts, two_cuts, first_failing_once}
 use Rattle.med_json.specs.Tree.{IsText, items_in, IsNoText}
 use Rattle.med_json.proofs.TreeLemmas.{tree_once, no_text}
 use Rattle.med_manifest.specs.declared.manifest.FileRecord.{FileRecord}
-use Rattle.med_manifest.specs.declared.why.ManifestError.TheVariants.{Why}
 use Rattle.med_manifest.specs.declared.why.ManifestWhy.{ManifestWhy}
 use Rattle.med_manifest.specs.declared.why.ManifestWhy.TheVariants.{NotJson, NotManifest, BadDigest, ForeignPath, DuplicatePath}
 use Rattle.med_manifest.specs.Manifest.{IsRecordOf}
@@ -16,8 +15,7 @@ use Rattle.med_manifest.proofs.Once.{named_once, records_once}
 use Rattle.med_manifest.proofs.Refused.{no_records, not_shaped, refused}
 
 pub refused_none : RefusedAreNone
-refused_none before f n bytes why is files is_manifest =
-    refused before f n bytes (Why why) is files is_manifest
+refused_none before f n bytes why is = refused before f n bytes why is
 
 -- ---- items that are no tables
 

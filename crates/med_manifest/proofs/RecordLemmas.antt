@@ -8,18 +8,19 @@ use Rattle.std.proofs.lemmas.List.Folds.{list_any-append}
 use Rattle.std.proofs.lemmas.Map.Keys.{IsDistinct-push}
 use Rattle.std.proofs.lemmas.Map.Views.{Contains-from_any}
 use Rattle.med_base.specs.declared.key.FileKey.{FileKey}
+use Rattle.med_base.specs.declared.memory.OrMemory.{OrMemory}
 use Rattle.med_base.specs.Key.{key_cmp, key_eq}
 use Rattle.med_base.specs.KeyOrder.{key_total, key_exact}
+use Rattle.med_base.specs.Memory.{WhyIs}
 use Rattle.med_base.proofs.Lists.{zip_next, length_zip, map_around, length_front}
+use Rattle.med_base.proofs.WhyLemmas.{why_weaker}
 use Rattle.med_manifest.specs.declared.manifest.FileRecord.{FileRecord}
 use Rattle.med_manifest.specs.declared.shape.NamedFile.{NamedFile}
-use Rattle.med_manifest.specs.declared.why.ManifestError.{ManifestError}
-use Rattle.med_manifest.specs.declared.why.ManifestError.TheVariants.{Why, Memory}
 use Rattle.med_manifest.specs.declared.why.ManifestWhy.TheVariants.{NotJson, NotManifest, BadDigest, ForeignPath, DuplicatePath}
 use Rattle.med_manifest.specs.Manifest.{IsRecordOf, AreRecords}
 use Rattle.med_manifest.specs.Named.{named}
-use Rattle.med_manifest.specs.Refusals.{BlamesFile, BlamesFiles, IsFirstFault, HasFault}
-use Rattle.med_manifest.specs.Seen.{BlamesSeen}
+use Rattle.med_manifest.specs.Refusals.{IsFirstFault, HasFault}
+use Rattle.med_manifest.specs.Seen.{IsSeen}
 use Rattle.med_manifest.specs.declared.why.ManifestWhy.{ManifestWhy}
 
 pub none_distinct : IsDistinct key_eq []
@@ -65,11 +66,12 @@ module _ (before f n : List ℕ) (files : List NamedFile) (i : ℕ) (raw : Named
   }
 
   -- an error over the next file is one over all files
-  pub first_fault : (e : ManifestError)
-      → ((es : List FileRecord) → length es ≡ i → BlamesFile before f n es (named raw) e)
-      → BlamesFiles before f n (map named files) e
-  first_fault Memory blames = tt
-  first_fault (Why why) blames = first_at why (blames earlier count)
+  pub first_fault : (e : OrMemory ManifestWhy)
+      → ((es : List FileRecord) → length es ≡ i → WhyIs (HasFault before f n es (named raw)) e)
+      → WhyIs (IsFirstFault before f n (map named files)) e
+  first_fault e has =
+      why_weaker (HasFault before f n earlier (named raw))
+      (IsFirstFault before f n (map named files)) first_at e (has earlier count)
 
   -- the next file is one that was seen
   pub repeated : (r : FileRecord) → IsRecordOf before f n (named raw) r
@@ -84,19 +86,27 @@ module _ (before f n : List ℕ) (files : List NamedFile) (i : ℕ) (raw : Named
     },
   )
 
-  -- an error over the record of the next file is one over all files
-  pub seen_fault : (seen : BTreeSet FileKey) (r : FileRecord) (e : ManifestError)
+  -- a fault of the record of the next file is the first of all files
+  seen_first : (seen : BTreeSet FileKey) (r : FileRecord) (why : ManifestWhy)
       → ((k : FileKey) → contains key_cmp seen k ≡ list_any (key_eq k) (keys_of earlier))
-      → IsRecordOf before f n (named raw) r → BlamesSeen seen r e
-      → BlamesFiles before f n (map named files) e
-  seen_fault seen r Memory same is blames = tt
-  seen_fault seen r (Why NotJson) same is blames = absurd blames
-  seen_fault seen r (Why (NotManifest at)) same is blames = absurd blames
-  seen_fault seen r (Why (BadDigest at)) same is blames = absurd blames
-  seen_fault seen r (Why (ForeignPath path)) same is blames = absurd blames
-  seen_fault seen r (Why (DuplicatePath path)) same is blames =
+      → IsRecordOf before f n (named raw) r → IsSeen seen r why
+      → IsFirstFault before f n (map named files) why
+  seen_first seen r NotJson same is has = absurd has
+  seen_first seen r (NotManifest at) same is has = absurd has
+  seen_first seen r (BadDigest at) same is has = absurd has
+  seen_first seen r (ForeignPath path) same is has = absurd has
+  seen_first seen r (DuplicatePath path) same is has =
       subst (λ (p : List ℕ). IsFirstFault before f n (map named files) (DuplicatePath p))
-      (sym blames.0) (repeated r is (sym (same r.key) ∙ blames.1))
+      (sym has.0) (repeated r is (sym (same r.key) ∙ has.1))
+
+  -- an error over it is one over all files
+  pub seen_fault : (seen : BTreeSet FileKey) (r : FileRecord) (e : OrMemory ManifestWhy)
+      → ((k : FileKey) → contains key_cmp seen k ≡ list_any (key_eq k) (keys_of earlier))
+      → IsRecordOf before f n (named raw) r → WhyIs (IsSeen seen r) e
+      → WhyIs (IsFirstFault before f n (map named files)) e
+  seen_fault seen r e same is =
+      why_weaker (IsSeen seen r) (IsFirstFault before f n (map named files))
+      (λ why has. seen_first seen r why same is has) e
 
   -- the next file is one that was not
   pub records_next : (r : FileRecord) (all : List FileRecord) → IsRecordOf before f n (named raw) r

@@ -6,22 +6,20 @@ use Rattle.std.proofs.lemmas.List.{map-append}
 use Rattle.std.proofs.lemmas.Map.Views.{list_any-from_Contains}
 use Rattle.serde_json.specs.Data.{Data, Items}
 use Rattle.med_base.specs.declared.key.FileKey.{FileKey}
+use Rattle.med_base.specs.declared.memory.OrMemory.{OrMemory}
 use Rattle.med_base.specs.Key.{key_eq}
 use Rattle.med_base.specs.KeyOrder.{key_total}
+use Rattle.med_base.specs.Memory.{WhyIs}
 use Rattle.med_base.proofs.Lists.{IsCut, zip_cut}
-use Rattle.med_json.specs.declared.read.JsonError.{JsonError}
-use Rattle.med_json.specs.declared.read.JsonError.TheVariants as cause
-use Rattle.med_json.specs.Blames.{BlamesText}
+use Rattle.med_base.proofs.WhyLemmas.{why_weaker}
 use Rattle.med_json.specs.Tree.{items_in}
 use Rattle.med_json.proofs.TreeLemmas.{tree_once, no_text}
 use Rattle.med_manifest.specs.declared.manifest.FileRecord.{FileRecord}
-use Rattle.med_manifest.specs.declared.why.ManifestError.{ManifestError}
-use Rattle.med_manifest.specs.declared.why.ManifestError.TheVariants.{Why, Memory}
 use Rattle.med_manifest.specs.declared.why.ManifestWhy.{ManifestWhy}
 use Rattle.med_manifest.specs.declared.why.ManifestWhy.TheVariants.{NotJson, NotManifest, BadDigest, ForeignPath, DuplicatePath}
 use Rattle.med_manifest.specs.Manifest.{IsRecordOf, AreRecords, IsManifest}
 use Rattle.med_manifest.specs.Named.{Named, IsTable, AreTables, HasFiles, NamesFiles}
-use Rattle.med_manifest.specs.Refusals.{IsUnshapedAt, no_list, no_table, HasFault, IsFirstFault, NamesFault, BlamesFiles, BlamesManifest, RefusesManifest, of_json}
+use Rattle.med_manifest.specs.Refusals.{IsUnshapedAt, no_list, no_table, HasFault, IsFirstFault, NamesFault, IsRefused, IsNoManifest}
 use Rattle.med_manifest.proofs.Once.{named_once, record_once, records_once}
 use Rattle.med_manifest.proofs.RecordLemmas.{keys_of}
 
@@ -93,37 +91,44 @@ not_shaped tree at files (no_table list is first) has =
     let cut = zip_cut IsTable first.good first.bad first.rest tables.tables zip in
     first.no_table (cut.here, cut.is)
 
-pub refused : (before f n bytes : List ℕ) (e : ManifestError) → BlamesManifest before f n bytes e
-    → RefusesManifest before f n bytes e
-refused before f n bytes Memory blames = tt
-refused before f n bytes (Why NotJson) blames = λ files is.
-    no_text bytes is.names.tree blames is.names.text
-refused before f n bytes (Why (NotManifest at)) blames = λ files is.
-    let same = tree_once bytes is.names.tree blames.0 is.names.text blames.1 in
-    not_shaped blames.0 at is.named blames.2
-    (subst (λ (d : Data). HasFiles d is.named) same is.names.has)
-refused before f n bytes (Why (BadDigest at)) blames = λ files is.
-    named_fault before f n bytes (BadDigest at) files blames is
-refused before f n bytes (Why (ForeignPath path)) blames = λ files is.
-    named_fault before f n bytes (ForeignPath path) files blames is
-refused before f n bytes (Why (DuplicatePath path)) blames = λ files is.
-    named_fault before f n bytes (DuplicatePath path) files blames is
+pub refused : (before f n bytes : List ℕ) (why : ManifestWhy) → IsRefused before f n bytes why
+    → IsNoManifest before f n bytes
+refused before f n bytes NotJson is files manifest =
+    no_text bytes manifest.names.tree is manifest.names.text
+refused before f n bytes (NotManifest at) is files manifest =
+    let same = tree_once bytes manifest.names.tree is.0 manifest.names.text is.1 in
+    not_shaped is.0 at manifest.named is.2
+    (subst (λ (d : Data). HasFiles d manifest.named) same manifest.names.has)
+refused before f n bytes (BadDigest at) is files manifest =
+    named_fault before f n bytes (BadDigest at) files is manifest
+refused before f n bytes (ForeignPath path) is files manifest =
+    named_fault before f n bytes (ForeignPath path) files is manifest
+refused before f n bytes (DuplicatePath path) is files manifest =
+    named_fault before f n bytes (DuplicatePath path) files is manifest
 
--- an error over a text is one over the manifest
-pub text_blamed : (before f n bytes : List ℕ) (e : JsonError) → BlamesText bytes e
-    → BlamesManifest before f n bytes (of_json e)
-text_blamed before f n bytes cause.NotJson blames = blames
-text_blamed before f n bytes cause.Memory blames = tt
+-- an error with its cause leaves no manifest
+pub error_refused : (before f n bytes : List ℕ) (e : OrMemory ManifestWhy)
+    → WhyIs (IsRefused before f n bytes) e → WhyIs (λ _. IsNoManifest before f n bytes) e
+error_refused before f n bytes =
+    why_weaker (IsRefused before f n bytes) (λ _. IsNoManifest before f n bytes)
+    (refused before f n bytes)
+
+-- the first fault of named files is that of their text
+pub fault_refused : (before f n bytes : List ℕ) (files : List Named) (why : ManifestWhy)
+    → NamesFiles bytes files → IsFirstFault before f n files why → IsRefused before f n bytes why
+fault_refused before f n bytes files NotJson names first = absurd first.fault
+fault_refused before f n bytes files (NotManifest at) names first = absurd first.fault
+fault_refused before f n bytes files (BadDigest at) names first =
+    record { files = files; names = names; first = first }
+fault_refused before f n bytes files (ForeignPath path) names first =
+    record { files = files; names = names; first = first }
+fault_refused before f n bytes files (DuplicatePath path) names first =
+    record { files = files; names = names; first = first }
 
 -- an error over named files is one over their text
-pub named_blamed : (before f n bytes : List ℕ) (files : List Named) (e : ManifestError)
-    → NamesFiles bytes files → BlamesFiles before f n files e → BlamesManifest before f n bytes e
-named_blamed before f n bytes files Memory names blames = tt
-named_blamed before f n bytes files (Why NotJson) names blames = absurd blames.fault
-named_blamed before f n bytes files (Why (NotManifest at)) names blames = absurd blames.fault
-named_blamed before f n bytes files (Why (BadDigest at)) names blames =
-    record { files = files; names = names; first = blames }
-named_blamed before f n bytes files (Why (ForeignPath path)) names blames =
-    record { files = files; names = names; first = blames }
-named_blamed before f n bytes files (Why (DuplicatePath path)) names blames =
-    record { files = files; names = names; first = blames }
+pub files_refused : (before f n bytes : List ℕ) (files : List Named) (e : OrMemory ManifestWhy)
+    → NamesFiles bytes files → WhyIs (IsFirstFault before f n files) e
+    → WhyIs (IsRefused before f n bytes) e
+files_refused before f n bytes files e names =
+    why_weaker (IsFirstFault before f n files) (IsRefused before f n bytes)
+    (λ why first. fault_refused before f n bytes files why names first) e

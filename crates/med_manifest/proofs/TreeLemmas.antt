@@ -12,11 +12,10 @@ use Rattle.med_base.proofs.Lists.{zip_next, each_has, map_around, length_front}
 use Rattle.med_base.proofs.Options.{none_by_test}
 use Rattle.med_json.specs.Tree.{IsText, text_at, list_at}
 use Rattle.med_json.proofs.TreeLemmas.{items_in-view}
-use Rattle.med_manifest.specs.declared.why.ManifestError.{ManifestError}
-use Rattle.med_manifest.specs.declared.why.ManifestError.TheVariants.{Why, Memory}
+use Rattle.med_manifest.specs.declared.why.ManifestWhy.{ManifestWhy}
 use Rattle.med_manifest.specs.declared.why.ManifestWhy.TheVariants.{NotJson, NotManifest, BadDigest, ForeignPath, DuplicatePath}
 use Rattle.med_manifest.specs.Named.{Named, IsFile, IsTable, AreTables, IsFirstUnshaped, HasFiles}
-use Rattle.med_manifest.specs.Refusals.{BlamesTables, BlamesManifest, no_table}
+use Rattle.med_manifest.specs.Refusals.{IsUnshaped, IsRefused, no_table}
 
 joined : List (List Named) → List Named
 joined tables = flat_map (λ (table : List Named). table) tables
@@ -107,18 +106,17 @@ has_files d list files is tables = record {
   tables = subst (λ (ds : List Data). AreTables ds files) (sym (items_in-view list)) tables;
 }
 
-pub unshaped : (d : Data) (list : List Value) (e : ManifestError)
-    → as_array d ≡ Some (items_view list) → BlamesTables (map view list) e
-    → (before f n bytes : List ℕ) → IsText bytes d → BlamesManifest before f n bytes e
-unshaped d list Memory is blames before f n bytes text = tt
-unshaped d list (Why NotJson) is blames before f n bytes text = absurd blames
-unshaped d list (Why (NotManifest at)) is blames before f n bytes text =
-    let first = subst (λ (ds : List Data). IsFirstUnshaped ds at) (sym (items_in-view list))
-    blames in
+-- the first item that is no table refuses the text
+pub unshaped : (d : Data) (list : List Value) (why : ManifestWhy)
+    → as_array d ≡ Some (items_view list) → IsUnshaped (map view list) why
+    → (before f n bytes : List ℕ) → IsText bytes d → IsRefused before f n bytes why
+unshaped d list NotJson is has before f n bytes text = absurd has
+unshaped d list (NotManifest at) is has before f n bytes text =
+    let first = subst (λ (ds : List Data). IsFirstUnshaped ds at) (sym (items_in-view list)) has in
     (d, text, no_table (items_view list) is first)
-unshaped d list (Why (BadDigest at)) is blames before f n bytes text = absurd blames
-unshaped d list (Why (ForeignPath path)) is blames before f n bytes text = absurd blames
-unshaped d list (Why (DuplicatePath path)) is blames before f n bytes text = absurd blames
+unshaped d list (BadDigest at) is has before f n bytes text = absurd has
+unshaped d list (ForeignPath path) is has before f n bytes text = absurd has
+unshaped d list (DuplicatePath path) is has before f n bytes text = absurd has
 
 -- ---- answers of a reader
 

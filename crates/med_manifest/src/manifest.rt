@@ -4,17 +4,17 @@ ghost use Rattle.std.specs.List.{AllByRecursion};
 ghost use Rattle.std.specs.Str.{IsUtf8};
 ghost use Rattle.serde_json.specs.Read.{read};
 ghost use Rattle.med_base.specs.Key.{AreRising, IsKey};
+ghost use Rattle.med_base.specs.Memory.{WhyIs};
 ghost use Rattle.med_manifest.specs.Written.{manifest_data, manifest_text};
 ghost use Rattle.med_manifest.specs.declared.manifest.FileRecord.{FileRecord};
 ghost use Rattle.med_manifest.specs.Manifest.{IsManifest, IsPathOf};
-ghost use Rattle.med_manifest.specs.Refusals.{BlamesManifest, RefusesManifest};
+ghost use Rattle.med_manifest.specs.Refusals.{IsRefused, IsNoManifest};
 
 use crate::ManifestError;
 use crate::records::records_of;
-use crate::shape::named_files;
+use crate::shape::{named_files, read_tree};
 use crate::written::manifest_value;
 use med_base::{BackupName, FileKey, Fingerprint, Fqdn, Layout, NoMemory, ObjPath};
-use med_json::read_value;
 use std::alloc::Global;
 
 /// A file of a backup: its key in the snapshot, the path of the object that holds it, and the size
@@ -71,10 +71,12 @@ impl Manifest {
     ) -> Result<Manifest, ManifestError>
         ensures ok { IfOk result
             (λ m. IsManifest layout.now node.now name.now bytes.now m.files.items) }
-        ensures err { IfErr result (BlamesManifest layout.now node.now name.now bytes.now) }
-        ensures refused { IfErr result (RefusesManifest layout.now node.now name.now bytes.now) }
+        ensures err { IfErr result
+            (WhyIs (IsRefused layout.now node.now name.now bytes.now)) }
+        ensures refused { IfErr result
+            (WhyIs (λ _. IsNoManifest layout.now node.now name.now bytes.now)) }
     {
-        let value = read_value(alloc, bytes)?;
+        let value = read_tree(alloc, bytes)?;
         let named = named_files(alloc, &value)?;
         let files = records_of(alloc, layout, node, name, named.as_slice())?;
         Ok(Manifest { files })

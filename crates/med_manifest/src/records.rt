@@ -4,13 +4,14 @@ ghost use Rattle.med_base.specs.declared.key.FileKey.{FileKey};
 ghost use Rattle.std.specs.BTreeSet.{contains, Updates};
 ghost use Rattle.med_base.specs.Key.{key_cmp};
 ghost use Rattle.med_base.specs.Kinds.{as_data};
+ghost use Rattle.med_base.specs.Memory.{WhyIs};
 ghost use Rattle.med_base.specs.Names.{component_fault};
 ghost use Rattle.med_manifest.specs.declared.manifest.FileRecord.{FileRecord};
 ghost use Rattle.med_manifest.specs.Manifest.{IsKeyOf, IsRecordOf, AreRecords};
 ghost use Rattle.med_manifest.specs.Named.{named};
 ghost use Rattle.med_manifest.specs.Places.{file_told, key_told, is_of_table};
-ghost use Rattle.med_manifest.specs.Refusals.{BlamesFile, BlamesFiles};
-ghost use Rattle.med_manifest.specs.Seen.{BlamesSeen};
+ghost use Rattle.med_manifest.specs.Refusals.{HasFault, IsFirstFault};
+ghost use Rattle.med_manifest.specs.Seen.{IsSeen};
 
 use crate::shape::NamedFile;
 use crate::{FileRecord, ManifestError, ManifestWhy};
@@ -117,7 +118,7 @@ fn record_of(
 ) -> Result<FileRecord, ManifestError>
     ensures ok { IfOk result (IsRecordOf layout.now node.now name.now (named raw.now)) }
     ensures err { IfErr result (λ e. (earlier : List FileRecord) → length earlier ≡ at
-        → BlamesFile layout.now node.now name.now earlier (named raw.now) e) }
+        → WhyIs (HasFault layout.now node.now name.now earlier (named raw.now)) e) }
 {
     let Ok(md5) = read_md5(raw.md5) else {
         return Err(ManifestError::Why(ManifestWhy::BadDigest { at }));
@@ -144,7 +145,7 @@ fn add(
     ensures fresh { OnOk result (contains key_cmp seen.old file.key ≡ false) }
     ensures seen { OnOk result (Updates key_cmp seen.old seen.new file.key true) }
     ensures records { OnOk result (records.new.items ≡ records.old.items ++ file ∷ []) }
-    ensures err { IfErr result (BlamesSeen seen.old file) }
+    ensures err { IfErr result (WhyIs (IsSeen seen.old file)) }
 {
     if !seen.insert(file.key.copy(alloc)?)? {
         let path = file.path;
@@ -165,7 +166,7 @@ pub(crate) fn records_of(
     ensures ok { IfOk result (λ records. AreRecords layout.now node.now name.now
         (map named files.now) records.items) }
     ensures err { IfErr result
-        (BlamesFiles layout.now node.now name.now (map named files.now)) }
+        (WhyIs (IsFirstFault layout.now node.now name.now (map named files.now))) }
 {
     let mut seen = BTreeSet::new(alloc);
     let mut records = Vec::new(alloc);

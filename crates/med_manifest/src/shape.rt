@@ -2,14 +2,15 @@
 ghost use Rattle.std.specs.Prelude.{◌≡◌, IfOk, IfErr, IfSome, List, ℕ, map, None, is_none};
 ghost use Rattle.std.specs.List.{AllZip};
 ghost use Rattle.serde_json.specs.View.{view};
+ghost use Rattle.med_base.specs.Memory.{WhyIs};
 ghost use Rattle.med_base.specs.Names.{component_fault};
 ghost use Rattle.med_json.specs.Tree.{IsText};
 ghost use Rattle.med_manifest.specs.Named.{Named, named, IsFile, IsTable, AreTables, HasFiles};
-ghost use Rattle.med_manifest.specs.Refusals.{BlamesManifest, BlamesTables};
+ghost use Rattle.med_manifest.specs.Refusals.{IsRefused, IsUnshaped};
 
 use crate::{ManifestError, ManifestWhy};
 use med_base::{Component, NameError, NoMemory};
-use med_json::{list_in, number_in, text_in};
+use med_json::{JsonError, list_in, number_in, read_value, text_in};
 use serde_json::Value;
 use std::alloc::Global;
 
@@ -100,7 +101,7 @@ fn table_in<'a>(alloc: Global, value: &'a Value) -> Result<Option<Vec<NamedFile<
 // The files of the tables that values are.
 fn files_of<'a>(alloc: Global, list: &'a [Value]) -> Result<Vec<NamedFile<'a>>, ManifestError>
     ensures ok { IfOk result (λ files. AreTables (map view list.now) (map named files.items)) }
-    ensures err { IfErr result (BlamesTables (map view list.now)) }
+    ensures err { IfErr result (WhyIs (IsUnshaped (map view list.now))) }
 {
     let mut files = Vec::new(alloc);
     for (at, value) in list.iter().enumerate() {
@@ -112,6 +113,19 @@ fn files_of<'a>(alloc: Global, list: &'a [Value]) -> Result<Vec<NamedFile<'a>>, 
     Ok(files)
 }
 
+/// The tree of a text, or why it has none.
+pub(crate) fn read_tree(alloc: Global, bytes: &[u8]) -> Result<Value, ManifestError>
+    ensures ok { IfOk result (λ value. IsText bytes.now (view value)) }
+    ensures err { IfErr result
+        (λ e. (before f n : List ℕ) → WhyIs (IsRefused before f n bytes.now) e) }
+{
+    match read_value(alloc, bytes) {
+        Ok(value) => Ok(value),
+        Err(JsonError::NotJson) => Err(ManifestError::Why(ManifestWhy::NotJson)),
+        Err(JsonError::Memory) => Err(ManifestError::Memory),
+    }
+}
+
 /// The files that a value names as a manifest.
 pub(crate) fn named_files<'a>(
     alloc: Global,
@@ -119,7 +133,7 @@ pub(crate) fn named_files<'a>(
 ) -> Result<Vec<NamedFile<'a>>, ManifestError>
     ensures ok { IfOk result (λ files. HasFiles (view value.now) (map named files.items)) }
     ensures err { IfErr result (λ e. (before f n bytes : List ℕ) → IsText bytes (view value.now)
-        → BlamesManifest before f n bytes e) }
+        → WhyIs (IsRefused before f n bytes) e) }
 {
     match value.as_array() {
         Some(list) => files_of(alloc, list.as_slice()),

@@ -1,11 +1,5 @@
 // Why bytes were not read as a manifest.
-ghost use Rattle.std.specs.Prelude.{◌≡◌};
-ghost use Rattle.med_manifest.specs.declared.why.ManifestError.TheVariants.{Memory};
-ghost use Rattle.med_manifest.specs.Refusals.{of_json};
-
-use med_base::{NoMemory, ObjPath};
-use med_json::JsonError;
-use std::alloc::{AllocError, AllocFailed};
+use med_base::{ObjPath, OrMemory};
 
 /// Why bytes are not the manifest of a backup: their first fault. The text comes before the
 /// tables, all tables before the files, and the files come one after another.
@@ -25,46 +19,6 @@ pub enum ManifestWhy {
     DuplicatePath { path: ObjPath },
 }
 
-/// Why the reader of manifests gave no answer.
-#[derive(Drop)]
-pub enum ManifestError {
-    /// The bytes are not the manifest of the backup.
-    Why(ManifestWhy),
-    /// There was no memory for the answer.
-    Memory,
-}
-
-impl From<AllocError> for ManifestError {
-    ghost from_gives = { λ _ e. e ≡ Memory };
-
-    fn from(_: AllocError) -> Self {
-        ManifestError::Memory
-    }
-}
-
-impl<T: Drop> From<AllocFailed<T>> for ManifestError {
-    ghost from_gives = { λ _ e. e ≡ Memory };
-
-    fn from(_: AllocFailed<T>) -> Self {
-        ManifestError::Memory
-    }
-}
-
-impl From<NoMemory> for ManifestError {
-    ghost from_gives = { λ _ e. e ≡ Memory };
-
-    fn from(_: NoMemory) -> Self {
-        ManifestError::Memory
-    }
-}
-
-impl From<JsonError> for ManifestError {
-    ghost from_gives = { λ error e. e ≡ of_json error };
-
-    fn from(error: JsonError) -> Self {
-        match error {
-            JsonError::NotJson => ManifestError::Why(ManifestWhy::NotJson),
-            JsonError::Memory => ManifestError::Memory,
-        }
-    }
-}
+/// Why the reader of manifests gave no answer: `Why` where the bytes are not the manifest of the
+/// backup, and `Memory` where there was no memory for the answer.
+pub type ManifestError = OrMemory<ManifestWhy>;

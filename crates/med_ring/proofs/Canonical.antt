@@ -52,9 +52,9 @@ value_is h =
     refl
 
 -- a name, a colon and a value, with what follows them
-glued : (name v w rest : List ℕ) → v ≡ w
+name_and_value : (name v w rest : List ℕ) → v ≡ w
     → name ++ 58 ∷ (v ++ rest) ≡ (name ++ 58 ∷ w) ++ rest
-glued name v w rest e =
+name_and_value name v w rest e =
     ap (λ (s : List ℕ). name ++ 58 ∷ (s ++ rest)) e ∙ sym (append_assoc name (58 ∷ w) rest)
 
 -- the hosts and the closing brace
@@ -62,9 +62,10 @@ hosts_text : (h : RingHost) (hs : List RingHost)
     → quoted h.name ++ 58 ∷ (compact_text (host_data h) ++ members_text true (members_data hs))
     ≡ by_commas (map host_text (h ∷ hs)) ++ 125 ∷ []
 hosts_text h [] =
-    glued (quoted h.name) (compact_text (host_data h)) (value_text h) (125 ∷ []) (value_is h)
+    name_and_value (quoted h.name) (compact_text (host_data h)) (value_text h) (125 ∷ [])
+    (value_is h)
 hosts_text h (g ∷ hs) =
-    glued (quoted h.name) (compact_text (host_data h)) (value_text h)
+    name_and_value (quoted h.name) (compact_text (host_data h)) (value_text h)
     (members_text true (members_data (g ∷ hs))) (value_is h)
     ∙ ap (λ (s : List ℕ). host_text h ++ 44 ∷ s) (hosts_text g hs)
     ∙ sym (append_assoc (host_text h) (44 ∷ by_commas (map host_text (g ∷ hs))) (125 ∷ []))

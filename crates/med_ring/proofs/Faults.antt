@@ -4,15 +4,17 @@ use Rattle.std.specs.List.{AllZip, IsDistinct}
 use Rattle.std.specs.Ordering.{int_eq}
 use Rattle.serde_json.specs.Data.{Data, Members}
 use Rattle.serde_json.specs.Find.{as_object}
+use Rattle.med_base.specs.declared.memory.OrMemory.{OrMemory}
+use Rattle.med_base.specs.Memory.{WhyIs}
 use Rattle.med_base.proofs.Lists.{no_zip, no_zip_cut}
+use Rattle.med_base.proofs.WhyLemmas.{why_weaker}
 use Rattle.med_json.specs.Tree.{IsText, members_in}
 use Rattle.med_json.proofs.TreeLemmas.{tree_once, no_text, members_once}
+use Rattle.med_ring.specs.declared.error.RingWhy.{RingWhy}
 use Rattle.med_ring.specs.declared.error.RingWhy.TheVariants.{NotJson, NotRing, TokenRange, TokenTwice}
-use Rattle.med_ring.specs.declared.error.RingError.{RingError}
-use Rattle.med_ring.specs.declared.error.RingError.TheVariants.{Why, Memory}
 use Rattle.med_ring.specs.Host.{RingHost, tokens_in}
 use Rattle.med_ring.specs.Ring.{IsHost, IsRing}
-use Rattle.med_ring.specs.Blames.{IsMisshapen, IsOutOfRange, IsFaultOf, IsNoObject, HasTwice, BlamesRing, HasNoRing}
+use Rattle.med_ring.specs.Blames.{IsMisshapen, IsOutOfRange, IsFaultOf, IsNoObject, HasTwice, IsRefused, HasNoRing}
 use Rattle.med_ring.specs.Token.{IsToken}
 use Rattle.med_ring.proofs.OneRing.{hosts_same}
 use Rattle.med_ring.proofs.Repeated.{twice_not_distinct}
@@ -75,13 +77,17 @@ twice_no_ring bytes token f hosts ring =
     twice_not_distinct (tokens_in f.hosts) token f.twice
     (subst (λ (hs : List RingHost). IsDistinct int_eq (tokens_in hs)) same ring.once)
 
--- an error that is right leaves no ring
-pub no_ring : (bytes : List ℕ) (e : RingError) → BlamesRing bytes e → HasNoRing bytes e
-no_ring bytes (Why NotJson) blames = λ hosts ring. no_text bytes ring.tree blames ring.text
-no_ring bytes (Why (NotRing host)) (inl f) = no_object_no_ring bytes (string_bytes host) f
-no_ring bytes (Why (NotRing host)) (inr f) =
+-- a cause leaves no ring
+pub no_ring : (bytes : List ℕ) (why : RingWhy) → IsRefused bytes why → HasNoRing bytes
+no_ring bytes NotJson is = λ hosts ring. no_text bytes ring.tree is ring.text
+no_ring bytes (NotRing host) (inl f) = no_object_no_ring bytes (string_bytes host) f
+no_ring bytes (NotRing host) (inr f) =
     fault_no_ring IsMisshapen misshapen_no_host bytes (string_bytes host) f
-no_ring bytes (Why (TokenRange host)) f =
+no_ring bytes (TokenRange host) f =
     fault_no_ring IsOutOfRange out_of_range_no_host bytes (string_bytes host) f
-no_ring bytes (Why (TokenTwice token)) f = twice_no_ring bytes token f
-no_ring bytes Memory blames = tt
+no_ring bytes (TokenTwice token) f = twice_no_ring bytes token f
+
+-- and neither does an error with its cause
+pub error_no_ring : (bytes : List ℕ) (err : OrMemory RingWhy) → WhyIs (IsRefused bytes) err
+    → WhyIs (λ _. HasNoRing bytes) err
+error_no_ring bytes = why_weaker (IsRefused bytes) (λ _. HasNoRing bytes) (no_ring bytes)

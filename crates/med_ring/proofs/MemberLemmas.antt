@@ -6,20 +6,19 @@ use Rattle.serde_json.specs.Data.{Data, Members}
 use Rattle.serde_json.specs.Find.{as_object}
 use Rattle.serde_json.specs.View.{view, members_view}
 use Rattle.serde_json.specs.declared.value.Value.{Value}
-use Rattle.med_json.specs.declared.read.JsonError.{JsonError}
-use Rattle.med_json.specs.declared.read.JsonError.TheVariants as cause
-use Rattle.med_json.specs.Blames.{BlamesText}
+use Rattle.med_base.specs.declared.memory.OrMemory.{OrMemory}
+use Rattle.med_base.specs.Memory.{WhyIs}
+use Rattle.med_ring.specs.declared.error.RingWhy.{RingWhy}
 use Rattle.med_ring.specs.declared.error.RingWhy.TheVariants.{NotJson, NotRing, TokenRange, TokenTwice}
-use Rattle.med_ring.specs.declared.error.RingError.{RingError}
-use Rattle.med_ring.specs.declared.error.RingError.TheVariants.{Why, Memory}
 use Rattle.med_ring.specs.declared.ring.Host.{Host}
-use Rattle.med_ring.specs.Blames.{IsShaped, IsMisshapen, IsOutOfRange, IsFirstAtFault, IsFaultOf, BlamesRing, of_json}
+use Rattle.med_ring.specs.Blames.{IsShaped, IsMisshapen, IsOutOfRange, IsFirstAtFault, IsFaultOf, IsRefused}
 use Rattle.med_ring.specs.Host.{RingHost, host_view, tokens_in}
-use Rattle.med_ring.specs.Members.{IsNotRingOf, IsRangeOf, BlamesHost, BlamesMembers}
+use Rattle.med_ring.specs.Members.{IsNotRingOf, IsRangeOf, IsHostRefused, AreMembersRefused}
 use Rattle.med_ring.specs.Ring.{IsHost}
 use Rattle.med_json.specs.Tree.{IsText, members_in}
-use Rattle.med_ring.specs.Twice.{BlamesTokens}
+use Rattle.med_ring.specs.Twice.{AreTokensRefused}
 use Rattle.med_base.proofs.Lists.{zip_push}
+use Rattle.med_base.proofs.WhyLemmas.{why_weaker}
 
 abbrev Entry : Type 0
 Entry = String Global × Value
@@ -61,36 +60,54 @@ first_at fault all done e more hosts name cut zip name_is at_fault = record {
   at_fault = at_fault;
 }
 
-pub first_fault : (all done : List Entry) (e : Entry) (more : List Entry) (hosts : List RingHost)
-    (err : RingError) → all ≡ done ++ e ∷ more
+first_refused : (all done : List Entry) (e : Entry) (more : List Entry) (hosts : List RingHost)
+    (why : RingWhy) → all ≡ done ++ e ∷ more
     → AllZip IsHost (members_in (members_view done)) hosts
-    → BlamesHost (string_bytes e.0, view e.1) err
-    → BlamesMembers (members_in (members_view all)) err
-first_fault all done e more hosts (Why (NotRing host)) cut zip blames =
-    first_at IsMisshapen all done e more hosts (string_bytes host) cut zip blames.0 blames.1
-first_fault all done e more hosts (Why (TokenRange host)) cut zip blames =
-    first_at IsOutOfRange all done e more hosts (string_bytes host) cut zip blames.0 blames.1
-first_fault all done e more hosts (Why NotJson) cut zip blames = blames
-first_fault all done e more hosts (Why (TokenTwice token)) cut zip blames = blames
-first_fault all done e more hosts Memory cut zip blames = tt
+    → IsHostRefused (string_bytes e.0, view e.1) why
+    → AreMembersRefused (members_in (members_view all)) why
+first_refused all done e more hosts NotJson cut zip is = is
+first_refused all done e more hosts (NotRing host) cut zip is =
+    first_at IsMisshapen all done e more hosts (string_bytes host) cut zip is.0 is.1
+first_refused all done e more hosts (TokenRange host) cut zip is =
+    first_at IsOutOfRange all done e more hosts (string_bytes host) cut zip is.0 is.1
+first_refused all done e more hosts (TokenTwice token) cut zip is = is
+
+-- an error over the first entry that is no host is one over all
+pub first_fault : (all done : List Entry) (e : Entry) (more : List Entry) (hosts : List RingHost)
+    (err : OrMemory RingWhy) → all ≡ done ++ e ∷ more
+    → AllZip IsHost (members_in (members_view done)) hosts
+    → WhyIs (IsHostRefused (string_bytes e.0, view e.1)) err
+    → WhyIs (AreMembersRefused (members_in (members_view all))) err
+first_fault all done e more hosts err cut zip =
+    why_weaker (IsHostRefused (string_bytes e.0, view e.1))
+    (AreMembersRefused (members_in (members_view all)))
+    (λ why is. first_refused all done e more hosts why cut zip is) err
 
 -- the name of a misshapen host is told rightly
-pub misshapen : (m : List ℕ × Data) (err : RingError) → IsNotRingOf m.0 err → (IsShaped m → ⊥)
-    → BlamesHost m err
-misshapen m (Why (NotRing host)) names bad = (names, bad)
-misshapen m (Why (TokenRange host)) names bad = absurd names
-misshapen m (Why NotJson) names bad = absurd names
-misshapen m (Why (TokenTwice token)) names bad = absurd names
-misshapen m Memory names bad = tt
+named_misshapen : (m : List ℕ × Data) → (IsShaped m → ⊥) → (why : RingWhy) → IsNotRingOf m.0 why
+    → IsHostRefused m why
+named_misshapen m bad NotJson names = names
+named_misshapen m bad (NotRing host) names = (names, bad)
+named_misshapen m bad (TokenRange host) names = absurd names
+named_misshapen m bad (TokenTwice token) names = names
+
+pub misshapen : (m : List ℕ × Data) (err : OrMemory RingWhy) → WhyIs (IsNotRingOf m.0) err
+    → (IsShaped m → ⊥) → WhyIs (IsHostRefused m) err
+misshapen m err names bad =
+    why_weaker (IsNotRingOf m.0) (IsHostRefused m) (named_misshapen m bad) err names
 
 -- and that of one with a token out of range
-pub out_of_range : (m : List ℕ × Data) (err : RingError) → IsRangeOf m.0 err → IsOutOfRange m
-    → BlamesHost m err
-out_of_range m (Why (TokenRange host)) names bad = (names, bad)
-out_of_range m (Why (NotRing host)) names bad = absurd names
-out_of_range m (Why NotJson) names bad = absurd names
-out_of_range m (Why (TokenTwice token)) names bad = absurd names
-out_of_range m Memory names bad = tt
+named_out_of_range : (m : List ℕ × Data) → IsOutOfRange m → (why : RingWhy) → IsRangeOf m.0 why
+    → IsHostRefused m why
+named_out_of_range m bad NotJson names = names
+named_out_of_range m bad (NotRing host) names = absurd names
+named_out_of_range m bad (TokenRange host) names = (names, bad)
+named_out_of_range m bad (TokenTwice token) names = names
+
+pub out_of_range : (m : List ℕ × Data) (err : OrMemory RingWhy) → WhyIs (IsRangeOf m.0) err
+    → IsOutOfRange m → WhyIs (IsHostRefused m) err
+out_of_range m err names bad =
+    why_weaker (IsRangeOf m.0) (IsHostRefused m) (named_out_of_range m bad) err names
 
 fault_of : (fault : List ℕ × Data → Type 0) (bytes name : List ℕ) (tree : Data) (ms : Members)
     → IsText bytes tree → as_object tree ≡ Some ms
@@ -103,39 +120,43 @@ fault_of fault bytes name tree ms text is f = record {
   first = f;
 }
 
--- an error over a text is one over the bytes
-pub text_blamed : (bytes : List ℕ) (e : JsonError) → BlamesText bytes e
-    → BlamesRing bytes (of_json e)
-text_blamed bytes cause.NotJson blames = blames
-text_blamed bytes cause.Memory blames = tt
+-- ---- the members of a value that was read
 
--- an error over the members is one over the bytes
-pub blames_hosts : (bytes : List ℕ) (tree : Data) (ms : Members) (err : RingError)
-    → IsText bytes tree → as_object tree ≡ Some ms → BlamesMembers (members_in ms) err
-    → BlamesRing bytes err
-blames_hosts bytes tree ms (Why (NotRing host)) text is f =
-    inr (fault_of IsMisshapen bytes (string_bytes host) tree ms text is f)
-blames_hosts bytes tree ms (Why (TokenRange host)) text is f =
-    fault_of IsOutOfRange bytes (string_bytes host) tree ms text is f
-blames_hosts bytes tree ms (Why NotJson) text is f = absurd f
-blames_hosts bytes tree ms (Why (TokenTwice token)) text is f = absurd f
-blames_hosts bytes tree ms Memory text is f = tt
+module _ (bytes : List ℕ) (tree : Data) (ms : Members) (text : IsText bytes tree)
+    (is : as_object tree ≡ Some ms) where
+  members_refused : (why : RingWhy) → AreMembersRefused (members_in ms) why → IsRefused bytes why
+  members_refused NotJson f = absurd f
+  members_refused (NotRing host) f =
+      inr (fault_of IsMisshapen bytes (string_bytes host) tree ms text is f)
+  members_refused (TokenRange host) f =
+      fault_of IsOutOfRange bytes (string_bytes host) tree ms text is f
+  members_refused (TokenTwice token) f = absurd f
 
--- and so is one over the tokens of all hosts
-pub blames_tokens : (bytes : List ℕ) (tree : Data) (ms : Members) (hosts : List RingHost)
-    (err : RingError) → IsText bytes tree → as_object tree ≡ Some ms
-    → AllZip IsHost (members_in ms) hosts → BlamesTokens (tokens_in hosts) err
-    → BlamesRing bytes err
-blames_tokens bytes tree ms hosts (Why (TokenTwice token)) text is zip f = record {
-  tree = tree;
-  text = text;
-  members = ms;
-  members_are = is;
-  hosts = hosts;
-  hosts_are = zip;
-  twice = f;
-}
-blames_tokens bytes tree ms hosts (Why NotJson) text is zip f = absurd f
-blames_tokens bytes tree ms hosts (Why (NotRing host)) text is zip f = absurd f
-blames_tokens bytes tree ms hosts (Why (TokenRange host)) text is zip f = absurd f
-blames_tokens bytes tree ms hosts Memory text is zip f = tt
+  -- an error over the members is one over the bytes
+  pub members_error : (err : OrMemory RingWhy) → WhyIs (AreMembersRefused (members_in ms)) err
+      → WhyIs (IsRefused bytes) err
+  members_error =
+      why_weaker (AreMembersRefused (members_in ms)) (IsRefused bytes) members_refused
+
+  tokens_refused : (hosts : List RingHost) → AllZip IsHost (members_in ms) hosts → (why : RingWhy)
+      → AreTokensRefused (tokens_in hosts) why → IsRefused bytes why
+  tokens_refused hosts zip NotJson f = absurd f
+  tokens_refused hosts zip (NotRing host) f = absurd f
+  tokens_refused hosts zip (TokenRange host) f = absurd f
+  tokens_refused hosts zip (TokenTwice token) f = record {
+    tree = tree;
+    text = text;
+    members = ms;
+    members_are = is;
+    hosts = hosts;
+    hosts_are = zip;
+    twice = f;
+  }
+
+  -- and so is one over the tokens of all hosts
+  pub tokens_error : (hosts : List RingHost) (err : OrMemory RingWhy)
+      → AllZip IsHost (members_in ms) hosts
+      → WhyIs (AreTokensRefused (tokens_in hosts)) err → WhyIs (IsRefused bytes) err
+  tokens_error hosts err zip =
+      why_weaker (AreTokensRefused (tokens_in hosts)) (IsRefused bytes) (tokens_refused hosts zip)
+      err

@@ -92,10 +92,10 @@ read_names (m ∷ ms) (h ∷ hs) zip =
     (subst IsFqdn (sym zip.0.name_is) zip.0.name_fits, read_names ms hs zip.1)
 
 -- hosts that were read, in order and with distinct tokens, keep the rules
-pub kept : (ms : List (List ℕ × Data)) (hs : List RingHost) → AllZip IsHost ms hs
+pub keeps_rules : (ms : List (List ℕ × Data)) (hs : List RingHost) → AllZip IsHost ms hs
     → HasRisingNames hs → AreInRange (tokens_in hs) → IsDistinct int_eq (tokens_in hs)
     → KeepsRules hs
-kept ms hs zip rise range once = record {
+keeps_rules ms hs zip rise range once = record {
   rising = rise;
   names_fit = read_names ms hs zip;
   in_range = range;

@@ -5,13 +5,15 @@ use Rattle.std.proofs.lemmas.Bool.Decides.{Decides-int_eq}
 use Rattle.std.proofs.lemmas.List.{get_or_append_left, map-append, append-nil}
 use Rattle.std.proofs.Math.Seq.{get_or-append_seam}
 use Rattle.std.proofs.lemmas.Map.Keys.{apart_from_distinct}
+use Rattle.med_base.specs.declared.memory.OrMemory.{OrMemory}
+use Rattle.med_base.specs.Memory.{WhyIs}
+use Rattle.med_ring.specs.declared.error.RingWhy.{RingWhy}
 use Rattle.med_ring.specs.declared.error.RingWhy.TheVariants.{NotJson, NotRing, TokenRange, TokenTwice}
-use Rattle.med_ring.specs.declared.error.RingError.{RingError}
-use Rattle.med_ring.specs.declared.error.RingError.TheVariants.{Why, Memory}
 use Rattle.med_ring.specs.declared.ring.Host.{Host}
 use Rattle.med_ring.specs.Host.{RingHost, host_view, tokens_in, IsInRange, AreInRange}
-use Rattle.med_ring.specs.Twice.{IsFirstTwice, BlamesTokens}
+use Rattle.med_ring.specs.Twice.{IsFirstTwice, AreTokensRefused}
 use Rattle.med_base.proofs.Lists.{all_append, split_at}
+use Rattle.med_base.proofs.WhyLemmas.{why_weaker}
 
 -- where a token stood before, the tokens are not distinct
 pub twice_not_distinct : (ts : List ℤ) (t : ℤ) → IsFirstTwice ts t → IsDistinct int_eq ts → ⊥
@@ -29,10 +31,13 @@ twice_not_distinct ts t f once =
     let same : int_eq t t ≡ true = (Decides-int_eq t t).1 refl in
     true≢false (sym same ∙ rw (here, there) at apart)
 
--- a fault of the first tokens is one of all
-pub blames_more : (ts more all : List ℤ) (err : RingError) → all ≡ ts ++ more
-    → BlamesTokens ts err → BlamesTokens all err
-blames_more ts more all (Why (TokenTwice token)) cut f = record {
+-- a cause over the first tokens is one over all
+tokens_refused_more : (ts more all : List ℤ) (why : RingWhy) → all ≡ ts ++ more
+    → AreTokensRefused ts why → AreTokensRefused all why
+tokens_refused_more ts more all NotJson cut f = f
+tokens_refused_more ts more all (NotRing host) cut f = f
+tokens_refused_more ts more all (TokenRange host) cut f = f
+tokens_refused_more ts more all (TokenTwice token) cut f = record {
   before = f.before;
   rest = f.rest ++ more;
   cut =
@@ -41,10 +46,13 @@ blames_more ts more all (Why (TokenTwice token)) cut f = record {
   stood = f.stood;
   distinct = f.distinct;
 }
-blames_more ts more all (Why NotJson) cut f = f
-blames_more ts more all (Why (NotRing host)) cut f = f
-blames_more ts more all (Why (TokenRange host)) cut f = f
-blames_more ts more all Memory cut f = tt
+
+-- an error over the first tokens is one over all
+pub tokens_error_more : (ts more all : List ℤ) (e : OrMemory RingWhy) → all ≡ ts ++ more
+    → WhyIs (AreTokensRefused ts) e → WhyIs (AreTokensRefused all) e
+tokens_error_more ts more all e cut =
+    why_weaker (AreTokensRefused ts) (AreTokensRefused all)
+    (λ why f. tokens_refused_more ts more all why cut f) e
 
 tokens_append : (a b : List RingHost) → tokens_in (a ++ b) ≡ tokens_in a ++ tokens_in b
 tokens_append [] b = refl

@@ -5,13 +5,9 @@ use Rattle.std.specs.List.{AllZip}
 use Rattle.serde_json.specs.Data.{Data, Members}
 use Rattle.serde_json.specs.Find.{as_object}
 use Rattle.med_base.specs.Kinds.{IsFqdn}
-use Rattle.med_json.specs.declared.read.JsonError.{JsonError}
-use Rattle.med_json.specs.declared.read.JsonError.TheVariants as cause
 use Rattle.med_json.specs.Tree.{IsText, IsNoText, members_in}
 use Rattle.med_ring.specs.declared.error.RingWhy.{RingWhy}
 use Rattle.med_ring.specs.declared.error.RingWhy.TheVariants.{NotJson, NotRing, TokenRange, TokenTwice}
-use Rattle.med_ring.specs.declared.error.RingError.{RingError}
-use Rattle.med_ring.specs.declared.error.RingError.TheVariants.{Why, Memory}
 use Rattle.med_ring.specs.Host.{RingHost, tokens_in}
 use Rattle.med_ring.specs.Ring.{IsShape, IsHost, IsRing}
 use Rattle.med_ring.specs.Token.{token_of}
@@ -79,24 +75,17 @@ pub record HasTwice (bytes : List ℕ) (token : ℤ) : Type 0 where
   pub hosts_are : AllZip IsHost (members_in members) hosts
   pub twice : IsFirstTwice (tokens_in hosts) token
 
--- the error that an error of JSON is
-abbrev pub of_json : JsonError → RingError
-of_json cause.NotJson = Why NotJson
-of_json cause.Memory = Memory
-
--- an error of the reader is right
-abbrev pub BlamesRing : List ℕ → RingError → Type 0
-BlamesRing bytes (Why NotJson) = IsNoText bytes
-BlamesRing bytes (Why (NotRing host)) =
+-- why the bytes are no token map
+abbrev pub IsRefused : List ℕ → RingWhy → Type 0
+IsRefused bytes NotJson = IsNoText bytes
+IsRefused bytes (NotRing host) =
     IsNoObject bytes (string_bytes host) ⊎ IsFaultOf IsMisshapen bytes (string_bytes host)
-BlamesRing bytes (Why (TokenRange host)) = IsFaultOf IsOutOfRange bytes (string_bytes host)
-BlamesRing bytes (Why (TokenTwice token)) = HasTwice bytes token
-BlamesRing bytes Memory = Unit {0}
+IsRefused bytes (TokenRange host) = IsFaultOf IsOutOfRange bytes (string_bytes host)
+IsRefused bytes (TokenTwice token) = HasTwice bytes token
 
--- bytes that were refused for a cause are no token map, of whatever hosts
-abbrev pub HasNoRing : List ℕ → RingError → Type 0
-HasNoRing bytes (Why why) = (hosts : List RingHost) → IsRing bytes hosts → ⊥
-HasNoRing bytes Memory = Unit {0}
+-- the bytes are no token map, of whatever hosts
+abbrev pub HasNoRing : List ℕ → Type 0
+HasNoRing bytes = (hosts : List RingHost) → IsRing bytes hosts → ⊥
 
 -- two causes are one: of one kind, and over one host or one token
 abbrev pub IsSameWhy : RingWhy → RingWhy → Type 0
@@ -108,10 +97,9 @@ IsSameWhy _ _ = ⊥
 
 -- bytes that have a cause to be refused are no token map, of whatever hosts
 abbrev pub RefusedAreNone : Type 0
-RefusedAreNone = (bytes : List ℕ) (why : RingWhy) → BlamesRing bytes (Why why)
-    → (hosts : List RingHost) → IsRing bytes hosts → ⊥
+RefusedAreNone = (bytes : List ℕ) (why : RingWhy) → IsRefused bytes why → HasNoRing bytes
 
 -- bytes are refused for one cause at most
 abbrev pub CauseIsOne : Type 0
-CauseIsOne = (bytes : List ℕ) (a b : RingWhy) → BlamesRing bytes (Why a) → BlamesRing bytes (Why b)
+CauseIsOne = (bytes : List ℕ) (a b : RingWhy) → IsRefused bytes a → IsRefused bytes b
     → IsSameWhy a b

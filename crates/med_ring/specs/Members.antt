@@ -1,10 +1,9 @@
--- Errors over the members of one object, and over one member, for this crate's own clauses.
+-- Causes over the members of one object, and over one member, for this crate's own clauses.
 use Rattle.std.specs.Prelude.{◌≡◌, ℕ, Bool, List, string_bytes}
 use Rattle.serde_json.specs.Data.{Data}
 use Rattle.med_base.specs.Kinds.{IsFqdn}
-use Rattle.med_ring.specs.declared.error.RingWhy.TheVariants.{NotJson, NotRing, TokenRange, TokenTwice}
-use Rattle.med_ring.specs.declared.error.RingError.{RingError}
-use Rattle.med_ring.specs.declared.error.RingError.TheVariants.{Why, Memory}
+use Rattle.med_ring.specs.declared.error.RingWhy.{RingWhy}
+use Rattle.med_ring.specs.declared.error.RingWhy.TheVariants.{NotRing, TokenRange}
 use Rattle.med_ring.specs.Blames.{IsMisshapen, IsOutOfRange, IsFirstAtFault}
 use Rattle.med_ring.specs.Ring.{IsShape}
 
@@ -13,42 +12,29 @@ abbrev pub HasNoShape : Data → Type 0
 HasNoShape d =
     (numbers : List Data) (is_up : Bool) (rack dc : List ℕ) → IsShape d numbers is_up rack dc → ⊥
 
--- the error names a misshapen host of this name
-abbrev pub IsNotRingOf : List ℕ → RingError → Type 0
-IsNotRingOf name (Why (NotRing host)) = string_bytes host ≡ name
-IsNotRingOf name (Why NotJson) = ⊥
-IsNotRingOf name (Why (TokenRange host)) = ⊥
-IsNotRingOf name (Why (TokenTwice token)) = ⊥
-IsNotRingOf name Memory = Unit {0}
+-- the cause names a misshapen host of this name
+abbrev pub IsNotRingOf : List ℕ → RingWhy → Type 0
+IsNotRingOf name (NotRing host) = string_bytes host ≡ name
+IsNotRingOf name _ = ⊥
 
--- the error names a host of this name with a token out of range
-abbrev pub IsRangeOf : List ℕ → RingError → Type 0
-IsRangeOf name (Why (TokenRange host)) = string_bytes host ≡ name
-IsRangeOf name (Why NotJson) = ⊥
-IsRangeOf name (Why (NotRing host)) = ⊥
-IsRangeOf name (Why (TokenTwice token)) = ⊥
-IsRangeOf name Memory = Unit {0}
+-- the cause names a host of this name with a token out of range
+abbrev pub IsRangeOf : List ℕ → RingWhy → Type 0
+IsRangeOf name (TokenRange host) = string_bytes host ≡ name
+IsRangeOf name _ = ⊥
 
--- an error over one member is right
-abbrev pub BlamesHost : List ℕ × Data → RingError → Type 0
-BlamesHost m (Why (NotRing host)) = (string_bytes host ≡ m.0) × IsMisshapen m
-BlamesHost m (Why (TokenRange host)) = (string_bytes host ≡ m.0) × IsOutOfRange m
-BlamesHost m (Why NotJson) = ⊥
-BlamesHost m (Why (TokenTwice token)) = ⊥
-BlamesHost m Memory = Unit {0}
+-- why a member is no host
+abbrev pub IsHostRefused : List ℕ × Data → RingWhy → Type 0
+IsHostRefused m (NotRing host) = (string_bytes host ≡ m.0) × IsMisshapen m
+IsHostRefused m (TokenRange host) = (string_bytes host ≡ m.0) × IsOutOfRange m
+IsHostRefused m _ = ⊥
 
--- an error over the members of an object is right
-abbrev pub BlamesMembers : List (List ℕ × Data) → RingError → Type 0
-BlamesMembers ms (Why (NotRing host)) = IsFirstAtFault IsMisshapen ms (string_bytes host)
-BlamesMembers ms (Why (TokenRange host)) = IsFirstAtFault IsOutOfRange ms (string_bytes host)
-BlamesMembers ms (Why NotJson) = ⊥
-BlamesMembers ms (Why (TokenTwice token)) = ⊥
-BlamesMembers ms Memory = Unit {0}
+-- why the members of an object are no hosts
+abbrev pub AreMembersRefused : List (List ℕ × Data) → RingWhy → Type 0
+AreMembersRefused ms (NotRing host) = IsFirstAtFault IsMisshapen ms (string_bytes host)
+AreMembersRefused ms (TokenRange host) = IsFirstAtFault IsOutOfRange ms (string_bytes host)
+AreMembersRefused ms _ = ⊥
 
--- an error over the name of a member is right
-abbrev pub BlamesName : List ℕ → RingError → Type 0
-BlamesName name (Why (NotRing host)) = (string_bytes host ≡ name) × (IsFqdn name → ⊥)
-BlamesName name (Why (TokenRange host)) = ⊥
-BlamesName name (Why NotJson) = ⊥
-BlamesName name (Why (TokenTwice token)) = ⊥
-BlamesName name Memory = Unit {0}
+-- why the name of a member is none of a node
+abbrev pub IsNameRefused : List ℕ → RingWhy → Type 0
+IsNameRefused name (NotRing host) = (string_bytes host ≡ name) × (IsFqdn name → ⊥)
+IsNameRefused name _ = ⊥

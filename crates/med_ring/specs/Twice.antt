@@ -2,9 +2,8 @@
 use Rattle.std.specs.Prelude.{◌≡◌, ℤ, List, ◌∷◌, ◌++◌, Contains}
 use Rattle.std.specs.List.{IsDistinct}
 use Rattle.std.specs.Ordering.{int_eq}
-use Rattle.med_ring.specs.declared.error.RingWhy.TheVariants.{NotJson, NotRing, TokenRange, TokenTwice}
-use Rattle.med_ring.specs.declared.error.RingError.{RingError}
-use Rattle.med_ring.specs.declared.error.RingError.TheVariants.{Why, Memory}
+use Rattle.med_ring.specs.declared.error.RingWhy.{RingWhy}
+use Rattle.med_ring.specs.declared.error.RingWhy.TheVariants.{TokenTwice}
 
 -- the tokens before the first place where the token stood before already
 pub record IsFirstTwice (tokens : List ℤ) (token : ℤ) : Type 0 where
@@ -16,10 +15,7 @@ pub record IsFirstTwice (tokens : List ℤ) (token : ℤ) : Type 0 where
 
 -- ---- for this crate's own clauses
 
--- an error over these tokens is right
-abbrev pub BlamesTokens : List ℤ → RingError → Type 0
-BlamesTokens tokens (Why (TokenTwice token)) = IsFirstTwice tokens token
-BlamesTokens tokens (Why NotJson) = ⊥
-BlamesTokens tokens (Why (NotRing host)) = ⊥
-BlamesTokens tokens (Why (TokenRange host)) = ⊥
-BlamesTokens tokens Memory = Unit {0}
+-- why these tokens are refused
+abbrev pub AreTokensRefused : List ℤ → RingWhy → Type 0
+AreTokensRefused tokens (TokenTwice token) = IsFirstTwice tokens token
+AreTokensRefused tokens _ = ⊥

@@ -1,12 +1,15 @@
 // Why bytes are no token map.
-ghost use Rattle.std.specs.Prelude.{◌≡◌};
-ghost use Rattle.med_ring.specs.declared.error.RingError.TheVariants.{Memory};
-ghost use Rattle.med_ring.specs.Blames.{of_json};
+ghost use Rattle.std.specs.Prelude.{IfOk, IfErr};
+ghost use Rattle.serde_json.specs.View.{view};
+ghost use Rattle.med_base.specs.Memory.{WhyIs};
+ghost use Rattle.med_json.specs.Tree.{IsText};
+ghost use Rattle.med_ring.specs.Blames.{IsRefused};
 ghost use Rattle.med_ring.specs.Members.{IsNotRingOf, IsRangeOf};
 
-use med_base::NoMemory;
-use med_json::JsonError;
-use std::alloc::{AllocError, AllocFailed, Global};
+use med_base::OrMemory;
+use med_json::{JsonError, read_value};
+use serde_json::Value;
+use std::alloc::{AllocError, Global};
 
 /// Why bytes are no token map.
 #[derive(Drop)]
@@ -25,53 +28,25 @@ pub enum RingWhy {
     TokenTwice { token: i64 },
 }
 
-/// Why no ring was read.
-#[derive(Drop)]
-pub enum RingError {
-    /// The bytes are no token map.
-    Why(RingWhy),
-    /// There was no memory for the ring, or for the name of the host at fault.
-    Memory,
-}
+/// Why no ring was read: `Why` where the bytes are no token map, and `Memory` where there was no
+/// memory for the ring, or for the name of the host at fault.
+pub type RingError = OrMemory<RingWhy>;
 
-impl From<AllocError> for RingError {
-    ghost from_gives = { λ _ e. e ≡ Memory };
-
-    fn from(_: AllocError) -> Self {
-        RingError::Memory
-    }
-}
-
-impl<T: Drop> From<AllocFailed<T>> for RingError {
-    ghost from_gives = { λ _ e. e ≡ Memory };
-
-    fn from(_: AllocFailed<T>) -> Self {
-        RingError::Memory
-    }
-}
-
-impl From<NoMemory> for RingError {
-    ghost from_gives = { λ _ e. e ≡ Memory };
-
-    fn from(_: NoMemory) -> Self {
-        RingError::Memory
-    }
-}
-
-impl From<JsonError> for RingError {
-    ghost from_gives = { λ error e. e ≡ of_json error };
-
-    fn from(error: JsonError) -> Self {
-        match error {
-            JsonError::NotJson => RingError::Why(RingWhy::NotJson),
-            JsonError::Memory => RingError::Memory,
-        }
+/// The tree of a text, or why it has none.
+pub(crate) fn read_tree(alloc: Global, bytes: &[u8]) -> Result<Value, RingError>
+    ensures ok { IfOk result (λ value. IsText bytes.now (view value)) }
+    ensures err { IfErr result (WhyIs (IsRefused bytes.now)) }
+{
+    match read_value(alloc, bytes) {
+        Ok(value) => Ok(value),
+        Err(JsonError::NotJson) => Err(RingError::Why(RingWhy::NotJson)),
+        Err(JsonError::Memory) => Err(RingError::Memory),
     }
 }
 
 /// That the host of this name is misshapen.
 pub(crate) fn not_ring(alloc: Global, name: &str) -> RingError
-    ensures { IsNotRingOf name.now result }
+    ensures { WhyIs (IsNotRingOf name.now) result }
 {
     match String::from_str(alloc, name) {
         Ok(host) => RingError::Why(RingWhy::NotRing { host }),
@@ -81,7 +56,7 @@ pub(crate) fn not_ring(alloc: Global, name: &str) -> RingError
 
 /// That a token of the host of this name is out of range.
 pub(crate) fn token_range(alloc: Global, name: &str) -> RingError
-    ensures { IsRangeOf name.now result }
+    ensures { WhyIs (IsRangeOf name.now) result }
 {
     match String::from_str(alloc, name) {
         Ok(host) => RingError::Why(RingWhy::TokenRange { host }),

@@ -3,9 +3,10 @@ ghost use Rattle.std.specs.Prelude.{◌≡◌, None, IfOk, IfErr, IfSome, IsTrue
 ghost use Rattle.std.specs.List.{AllByRecursion, AllZip};
 ghost use Rattle.serde_json.specs.View.{view};
 ghost use Rattle.med_base.specs.Kinds.{IsFqdn};
+ghost use Rattle.med_base.specs.Memory.{WhyIs};
 ghost use Rattle.med_ring.specs.Blames.{HasNoToken};
 ghost use Rattle.med_ring.specs.Host.{host_view, AreInRange};
-ghost use Rattle.med_ring.specs.Members.{HasNoShape, BlamesHost, BlamesName};
+ghost use Rattle.med_ring.specs.Members.{HasNoShape, IsHostRefused, IsNameRefused};
 ghost use Rattle.med_ring.specs.Ring.{IsShape, IsHost};
 ghost use Rattle.med_ring.specs.Token.{token_of, IsNumber, IsToken};
 
@@ -29,7 +30,7 @@ struct Shape<'a> {
 pub(crate) fn read_host(alloc: Global, name: &str, value: &Value) -> Result<Host, RingError>
     ensures ok { IfOk result (λ h. IsHost (name.now, view value.now) (host_view h)) }
     ensures bound { IfOk result (λ h. AreInRange h.tokens.items) }
-    ensures err { IfErr result (BlamesHost (name.now, view value.now)) }
+    ensures err { IfErr result (WhyIs (IsHostRefused (name.now, view value.now))) }
 {
     let Some(shape) = shape_of(value) else {
         return Err(not_ring(alloc, name));
@@ -52,7 +53,7 @@ pub(crate) fn read_host(alloc: Global, name: &str, value: &Value) -> Result<Host
 fn read_name(alloc: Global, name: &str) -> Result<Fqdn, RingError>
     ensures ok { IfOk result (λ node. node ≡ name.now) }
     ensures fits { IfOk result (λ node. IsFqdn node) }
-    ensures err { IfErr result (BlamesName name.now) }
+    ensures err { IfErr result (WhyIs (IsNameRefused name.now)) }
 {
     match Fqdn::read(alloc, name) {
         Ok(node) => Ok(node),

@@ -2,9 +2,10 @@
 ghost use Rattle.std.specs.Prelude.{IfOk, IfErr, map};
 ghost use Rattle.std.specs.List.{AllZip};
 ghost use Rattle.serde_json.specs.View.{members_view};
+ghost use Rattle.med_base.specs.Memory.{WhyIs};
 ghost use Rattle.med_json.specs.Tree.{members_in};
 ghost use Rattle.med_ring.specs.Host.{host_view, tokens_in, AreInRange, HasRisingNames};
-ghost use Rattle.med_ring.specs.Members.{BlamesMembers};
+ghost use Rattle.med_ring.specs.Members.{AreMembersRefused};
 ghost use Rattle.med_ring.specs.Ring.{IsHost};
 
 use crate::host::read_host;
@@ -22,7 +23,8 @@ pub(crate) fn read_hosts(
         (map host_view v.items)) }
     ensures order { IfOk result (λ v. HasRisingNames (map host_view v.items)) }
     ensures bound { IfOk result (λ v. AreInRange (tokens_in (map host_view v.items))) }
-    ensures err { IfErr result (BlamesMembers (members_in (members_view members.now.entries))) }
+    ensures err { IfErr result
+        (WhyIs (AreMembersRefused (members_in (members_view members.now.entries)))) }
 {
     let mut hosts = Vec::new(alloc);
     for (name, value) in members {

@@ -2,8 +2,9 @@
 ghost use Rattle.std.specs.Prelude.{◌≡◌, ◌++◌, OnOk, IfErr, map};
 ghost use Rattle.std.specs.List.{IsDistinct};
 ghost use Rattle.std.specs.Ordering.{int_eq};
+ghost use Rattle.med_base.specs.Memory.{WhyIs};
 ghost use Rattle.med_ring.specs.Host.{host_view, tokens_in};
-ghost use Rattle.med_ring.specs.Twice.{BlamesTokens};
+ghost use Rattle.med_ring.specs.Twice.{AreTokensRefused};
 
 use crate::{Host, RingError, RingWhy};
 use indexmap::IndexSet;
@@ -12,7 +13,8 @@ use std::alloc::Global;
 /// The tokens of all hosts differ, or the first that stood before is told.
 pub(crate) fn check_tokens(alloc: Global, hosts: &[Host]) -> Result<(), RingError>
     ensures ok { OnOk result (IsDistinct int_eq (tokens_in (map host_view hosts.now))) }
-    ensures err { IfErr result (BlamesTokens (tokens_in (map host_view hosts.now))) }
+    ensures err { IfErr result
+        (WhyIs (AreTokensRefused (tokens_in (map host_view hosts.now)))) }
 {
     let mut seen = IndexSet::new(alloc);
     for host in hosts {
@@ -26,7 +28,7 @@ fn add_tokens(seen: &mut IndexSet<i64>, tokens: &[i64]) -> Result<(), RingError>
     requires { IsDistinct int_eq seen.old.keys }
     ensures ok { OnOk result (seen.new.keys ≡ seen.old.keys ++ tokens.now) }
     ensures fits { OnOk result (IsDistinct int_eq seen.new.keys) }
-    ensures err { IfErr result (BlamesTokens (seen.old.keys ++ tokens.now)) }
+    ensures err { IfErr result (WhyIs (AreTokensRefused (seen.old.keys ++ tokens.now))) }
 {
     for token in tokens {
         let is_new = seen.insert(*token)?;

@@ -2,18 +2,18 @@
 ghost use Rattle.std.specs.Prelude.{◌≡◌, Some, IfOk, IfErr, map, option_map};
 ghost use Rattle.std.specs.Str.{IsUtf8};
 ghost use Rattle.serde_json.specs.Read.{read};
-ghost use Rattle.med_ring.specs.Blames.{BlamesRing, HasNoRing};
+ghost use Rattle.med_base.specs.Memory.{WhyIs};
+ghost use Rattle.med_ring.specs.Blames.{IsRefused, HasNoRing};
 ghost use Rattle.med_ring.specs.Host.{host_view, KeepsRules, TellsHost, TellsTokens};
 ghost use Rattle.med_ring.specs.Ring.{IsRing};
 ghost use Rattle.med_ring.specs.Written.{ring_text, ring_data};
 
 use crate::RingError;
-use crate::error::not_ring;
+use crate::error::{not_ring, read_tree};
 use crate::members::read_hosts;
 use crate::repeats::check_tokens;
 use crate::written::ring_value;
 use med_base::{Fqdn, NoMemory};
-use med_json::read_value;
 use std::alloc::Global;
 use std::marker::Model;
 
@@ -53,10 +53,10 @@ impl Ring {
     pub fn read(alloc: Global, bytes: &[u8]) -> Result<Ring, RingError>
         ensures ok { IfOk result (IsRing bytes.now) }
         ensures fits { IfOk result KeepsRules }
-        ensures err { IfErr result (BlamesRing bytes.now) }
-        ensures refused { IfErr result (HasNoRing bytes.now) }
+        ensures err { IfErr result (WhyIs (IsRefused bytes.now)) }
+        ensures refused { IfErr result (WhyIs (λ _. HasNoRing bytes.now)) }
     {
-        let tree = read_value(alloc, bytes)?;
+        let tree = read_tree(alloc, bytes)?;
         let Some(members) = tree.as_object() else {
             return Err(not_ring(alloc, ""));
         };

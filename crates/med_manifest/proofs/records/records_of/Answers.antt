@@ -2,9 +2,10 @@ use Rattle.std.proofs.Common.{rules, ◌≡◌, ◌∙◌, false, List, map, sym
 use Rattle.std.specs.List.{list_any}
 use Rattle.std.proofs.lemmas.List.{get_or_default}
 use Rattle.med_base.specs.Key.{key_eq}
+use Rattle.med_base.specs.Memory.{WhyIs}
 use Rattle.med_manifest.specs.declared.shape.NamedFile.{NamedFile}
 use Rattle.med_manifest.specs.Named.{named}
-use Rattle.med_manifest.specs.Refusals.{BlamesFiles}
+use Rattle.med_manifest.specs.Refusals.{IsFirstFault}
 use Rattle.med_manifest.proofs.RecordLemmas.{none_distinct, nothing, keys_of, first_fault, seen_fault, records_next, seen_next}
 use Rattle.med_manifest.proofs.records.records_of.Goals as goal
 
@@ -18,8 +19,8 @@ pub returns-in_err-record-clause-err : goal.returns-in_err-record-clause-err
 returns-in_err-record-clause-err c =
     let files : List NamedFile = c.args.files.now in
     let i = c.loop-at.at in
-    let blames : BlamesFiles c.args.layout.now c.args.node.now c.args.name.now
-    (map named c.args.files.now) c.in_err-record.field-0.0 =
+    let faulty : WhyIs (IsFirstFault c.args.layout.now c.args.node.now c.args.name.now
+    (map named c.args.files.now)) c.in_err-record.field-0.0 =
     first_fault c.args.layout.now c.args.node.now c.args.name.now files i (get_or files i nothing)
     c.loop-at.records.items (omega arith) (get_or_default files i nothing _ (omega arith))
     c.loop-at.invariant.are c.in_err-record.field-0.0 c.in_err-record.ensures.err in
@@ -29,8 +30,8 @@ pub returns-in_err-add-clause-err : goal.returns-in_err-add-clause-err
 returns-in_err-add-clause-err c =
     let files : List NamedFile = c.args.files.now in
     let i = c.loop-at.at in
-    let blames : BlamesFiles c.args.layout.now c.args.node.now c.args.name.now
-    (map named c.args.files.now) c.in_err-add.field-0.0 =
+    let faulty : WhyIs (IsFirstFault c.args.layout.now c.args.node.now c.args.name.now
+    (map named c.args.files.now)) c.in_err-add.field-0.0 =
     seen_fault c.args.layout.now c.args.node.now c.args.name.now files i (get_or files i nothing)
     c.loop-at.records.items (omega arith) (get_or_default files i nothing _ (omega arith))
     c.loop-at.invariant.are c.loop-at.seen c.in_ok-record.record c.in_err-add.field-0.0

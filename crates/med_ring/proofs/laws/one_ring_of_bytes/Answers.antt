@@ -1,4 +1,3 @@
-use Rattle.med_ring.specs.declared.error.RingError.TheVariants.{Why}
 use Rattle.med_ring.proofs.Faults.{no_ring}
 use Rattle.med_ring.proofs.OneCause.{cause_is_one}
 use Rattle.med_ring.proofs.OneRing.{ring_is_one}
@@ -8,5 +7,5 @@ pub returns : goal.returns
 returns c = record {
   one = ring_is_one;
   one_cause = cause_is_one;
-  refused = λ bytes why blames. no_ring bytes (Why why) blames;
+  refused = no_ring;
 }

@@ -6,8 +6,9 @@ use Rattle.std.specs.Map.Iter.{deref_pair}
 use Rattle.std.specs.List.{AllZip}
 use Rattle.serde_json.specs.declared.value.Value.{Value}
 use Rattle.serde_json.specs.View.{view, members_view}
+use Rattle.med_base.specs.Memory.{WhyIs}
 use Rattle.med_ring.specs.Host.{host_view}
-use Rattle.med_ring.specs.Members.{BlamesHost}
+use Rattle.med_ring.specs.Members.{IsHostRefused}
 use Rattle.med_ring.specs.Ring.{IsHost}
 use Rattle.med_json.specs.Tree.{members_in}
 use Rattle.med_ring.proofs.MemberLemmas.{one_more, first_fault}
@@ -33,12 +34,12 @@ returns-in_err-read_host-clause-err c =
     let cut : c.args.members.now.entries ≡ done ++ e ∷ rest =
     sym c.into_iter-name-iterator.ensures.into_iter_gives.0 ∙ so_far
     ∙ ap (λ (r : List Entry). done ++ r) more in
-    let blames = subst
-    (λ (n : List ℕ). BlamesHost (n, view e.1) c.in_err-read_host.field-0.0)
+    let refused = subst
+    (λ (n : List ℕ). WhyIs (IsHostRefused (n, view e.1)) c.in_err-read_host.field-0.0)
     c.as_str.ensures.value c.in_err-read_host.ensures.err in
     rw (p.1, p.2)
     (first_fault c.args.members.now.entries done e rest (map host_view c.loop-name.hosts.items)
-    c.in_err-read_host.field-0.0 cut c.loop-name.invariant.are_hosts blames)
+    c.in_err-read_host.field-0.0 cut c.loop-name.invariant.are_hosts refused)
 
 pub loop-name-preserved : goal.loop-name-preserved
 loop-name-preserved c =

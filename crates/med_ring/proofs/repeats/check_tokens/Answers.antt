@@ -2,7 +2,7 @@ use Rattle.std.proofs.Common.{◌≡◌, ◌∙◌, ◌+◌, ◌++◌, ℕ, ℤ,
 use Rattle.std.proofs.lemmas.Result.{err_from_is_err_and}
 use Rattle.med_ring.specs.declared.ring.Host.{Host}
 use Rattle.med_ring.specs.Host.{host_view, tokens_in}
-use Rattle.med_ring.proofs.Repeated.{tokens_cut, blames_more}
+use Rattle.med_ring.proofs.Repeated.{tokens_cut, tokens_error_more}
 use Rattle.med_ring.proofs.repeats.check_tokens.Goals as goal
 
 pub returns-in_err-add_tokens-clause-err : goal.returns-in_err-add_tokens-clause-err
@@ -18,5 +18,5 @@ returns-in_err-add_tokens-clause-err c =
     ∙ ap (λ (ts : List ℤ). (ts ++ (host_view x).tokens) ++ rest) (sym c.loop-host.invariant.same)
     ∙ ap (λ (ts : List ℤ). (keys ++ ts) ++ rest) (sym c.as_slice.ensures.value) in
     rw (p.1, p.2)
-    (blames_more (keys ++ c.as_slice.result.now) rest (tokens_in (map host_view hosts))
+    (tokens_error_more (keys ++ c.as_slice.result.now) rest (tokens_in (map host_view hosts))
     c.in_err-add_tokens.field-0.0 cut c.in_err-add_tokens.ensures.err)

@@ -1,38 +1,40 @@
 use Rattle.std.proofs.Common.{rules, List, map, subst}
-use Rattle.std.proofs.lemmas.Result.{err_from_is_err_and}
 use Rattle.serde_json.specs.View.{view}
+use Rattle.med_base.specs.Memory.{WhyIs}
 use Rattle.med_manifest.specs.declared.shape.NamedFile.{NamedFile}
 use Rattle.med_manifest.specs.Named.{named, NamesFiles}
-use Rattle.med_manifest.specs.Refusals.{BlamesFiles, BlamesManifest, RefusesManifest, of_json}
-use Rattle.med_manifest.proofs.Refused.{refused, text_blamed, named_blamed}
+use Rattle.med_manifest.specs.Refusals.{IsFirstFault, IsRefused, IsNoManifest}
+use Rattle.med_manifest.proofs.Refused.{error_refused, files_refused}
 use Rattle.med_manifest.proofs.manifest.Manifest.read.Goals as goal
 
 pub returns-in_err-value-clause-err : goal.returns-in_err-value-clause-err
 returns-in_err-value-clause-err c =
-    let p = err_from_is_err_and c.from_residual.result
-    c.from_residual.ensures.1 in
-    rw (p.1, p.2) (text_blamed _ _ _ _ c.in_err-value.field-0.0 c.in_err-value.ensures.err)
+    let refused : WhyIs
+    (IsRefused c.args.layout.now c.args.node.now c.args.name.now c.args.bytes.now)
+    c.in_err-value.field-0.0 = c.in_err-value.ensures.err _ _ _ in
+    search rules
 
 pub returns-in_err-value-clause-refused : goal.returns-in_err-value-clause-refused
 returns-in_err-value-clause-refused c =
-    let p = err_from_is_err_and c.from_residual.result
-    c.from_residual.ensures.1 in
-    rw (p.1, p.2)
-    (refused c.args.layout.now c.args.node.now c.args.name.now c.args.bytes.now
-    (of_json c.in_err-value.field-0.0)
-    (text_blamed _ _ _ _ c.in_err-value.field-0.0 c.in_err-value.ensures.err))
+    let refuses : WhyIs
+    (λ _. IsNoManifest c.args.layout.now c.args.node.now c.args.name.now c.args.bytes.now)
+    c.in_err-value.field-0.0 =
+    error_refused _ _ _ _ _ (c.in_err-value.ensures.err _ _ _) in
+    search rules
 
 pub returns-in_err-named-clause-err : goal.returns-in_err-named-clause-err
 returns-in_err-named-clause-err c =
-    let blames : BlamesManifest c.args.layout.now c.args.node.now c.args.name.now c.args.bytes.now
+    let refused : WhyIs
+    (IsRefused c.args.layout.now c.args.node.now c.args.name.now c.args.bytes.now)
     c.in_err-named.field-0.0 = c.in_err-named.ensures.err _ _ _ _ c.in_ok-value.ensures.ok in
     search rules
 
 pub returns-in_err-named-clause-refused : goal.returns-in_err-named-clause-refused
 returns-in_err-named-clause-refused c =
-    let refuses : RefusesManifest c.args.layout.now c.args.node.now c.args.name.now c.args.bytes.now
+    let refuses : WhyIs
+    (λ _. IsNoManifest c.args.layout.now c.args.node.now c.args.name.now c.args.bytes.now)
     c.in_err-named.field-0.0 =
-    refused _ _ _ _ _ (c.in_err-named.ensures.err _ _ _ _ c.in_ok-value.ensures.ok) in
+    error_refused _ _ _ _ _ (c.in_err-named.ensures.err _ _ _ _ c.in_ok-value.ensures.ok) in
     search rules
 
 pub returns-in_err-files-clause-refused : goal.returns-in_err-files-clause-refused
@@ -47,10 +49,10 @@ returns-in_err-files-clause-refused c =
       text = c.in_ok-value.ensures.ok;
       has = c.in_ok-named.ensures.ok;
     } in
-    let blames : BlamesFiles layout node name (map named c.in_ok-named.named.items) e =
-    subst (λ (fs : List NamedFile). BlamesFiles layout node name (map named fs) e)
+    let faulty : WhyIs (IsFirstFault layout node name (map named c.in_ok-named.named.items)) e =
+    subst (λ (fs : List NamedFile). WhyIs (IsFirstFault layout node name (map named fs)) e)
     c.as_slice.ensures.value c.in_err-files.ensures.err in
-    let refuses : RefusesManifest layout node name c.args.bytes.now e =
-    refused layout node name c.args.bytes.now e
-    (named_blamed layout node name c.args.bytes.now _ e names blames) in
+    let refuses : WhyIs (λ _. IsNoManifest layout node name c.args.bytes.now) e =
+    error_refused layout node name c.args.bytes.now e
+    (files_refused layout node name c.args.bytes.now _ e names faulty) in
     search rules
