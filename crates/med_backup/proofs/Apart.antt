@@ -14,7 +14,8 @@ use Rattle.med_base.proofs.Folders.{is_under-append}
 use Rattle.med_base.proofs.Paths.{component_no_slash, own_path_injective, same_rest}
 use Rattle.med_base.proofs.Lists.{all_unmap}
 use Rattle.std.specs.declared.cmp.Ordering.TheVariants.{Less}
-use Rattle.med_backup.specs.Copies.{Copy, key_of, put_of}
+use Rattle.med_backup.specs.Copies.{Copy, put_of}
+use Rattle.med_backup.proofs.CopyLemmas.{key_of}
 use Rattle.med_backup.proofs.Stands.{NoneHas}
 
 first_byte : List ℕ → ℕ

@@ -1,21 +1,28 @@
 -- How copying ends, step by step.
-use Rattle.std.proofs.Common.{◌≡◌, inl, inr, ℕ, List, Option, Ok, Err, refl, subst, ◌≤◌, arith}
+use Rattle.std.proofs.Common.{◌≡◌, inl, inr, ℕ, List, ◌∷◌, Option, Result, Ok, Err, refl, subst, ◌≤◌, arith}
 use Rattle.med_base.specs.declared.key.FileKey.{FileKey}
 use Rattle.med_base.specs.declared.layout.MetaKind.TheVariants.{Manifest}
 use Rattle.med_base.specs.Layout.{meta_path}
 use Rattle.med_manifest.specs.declared.manifest.FileRecord.{FileRecord}
 use Rattle.med_manifest.specs.Written.{manifest_text}
-use Rattle.med_outside.specs.Ends.{Device, Stop, StopsAt, Ends}
+use Rattle.med_outside.specs.Ends.{Device, Nodes, Storage, on, Refusal, Stop, Answers, StopsAt, Ends}
+use Rattle.med_outside.specs.Effects.{Effect}
 use Rattle.med_outside.specs.Snapshot.{Snapshot}
 use Rattle.med_outside.specs.State.{State, History}
 use Rattle.med_outside.specs.World.{rose_of_node}
 use Rattle.med_outside.proofs.Passing.{moves_at_rest}
 use Rattle.med_backup.specs.Copies.{ChangeLists, IsPut, OrNothing, IsMadeBy, IsSchemaPut, IsManifestPut, ArePut, AreFirstPut, HasFiles, HasAll}
 use Rattle.med_backup.specs.Errors.{device_of, stop_of_fault}
-use Rattle.med_backup.specs.Plan.{on_storage, on_both, Passed, Copies, copy_plan}
+use Rattle.med_backup.specs.Plan.{Passed, copy_plan}
 use Rattle.med_backup.specs.declared.place.CopyFault.{CopyFault}
 use Rattle.med_backup.specs.declared.place.CopyFault.TheVariants.{Snap, Store, Memory}
 use Rattle.med_backup.proofs.Made.{made_on, none_made}
+
+-- files with these keys were put, and this is what the manifest records of them
+abbrev Copies : (before f n : List ℕ) → Option Snapshot → List FileKey
+    → Result (List FileRecord) Refusal → Type 0
+Copies before f n held order =
+    Answers (λ files. (xs : List Effect) × ArePut before f n held order files xs)
 
 module _ (before f n : List ℕ) (held : Option Snapshot) (order : List FileKey) (schema : List ℕ)
     (rose : Device → Type 0) where
@@ -30,7 +37,7 @@ module _ (before f n : List ℕ) (held : Option Snapshot) (order : List FileKey)
 
   -- the schema was put, and copying the files stopped
   pub files_stopped : (stop : Stop) (s0 s1 s2 : State) (p0 p1 p2 : History)
-      → StopsAt rose (Copies before f n held order) on_both stop
+      → StopsAt rose (Copies before f n held order) (Nodes ∷ on Storage) stop
       → IsMadeBy s0 s1 p0 p1 first
       → IsMadeBy s1 s2 p1 p2 (AreFirstPut before f n held order)
       → Ends rose (IsMadeBy s0 s2 p0 p2) (copy_plan before f n held order schema) (Err stop)
@@ -47,7 +54,7 @@ module _ (before f n : List ℕ) (held : Option Snapshot) (order : List FileKey)
   -- the files were put, and the put of the manifest stopped
   pub manifest_stopped : (stop : Stop) (files : List FileRecord) (text : List ℕ)
       (s0 s1 s2 s3 : State) (p0 p1 p2 p3 : History)
-      → StopsAt {T = Unit {0}} rose Passed on_storage stop → text ≡ manifest_text files
+      → StopsAt {T = Unit {0}} rose Passed (on Storage) stop → text ≡ manifest_text files
       → IsMadeBy s0 s1 p0 p1 first → IsMadeBy s1 s2 p1 p2 (files_put files)
       → IsMadeBy s2 s3 p2 p3 (OrNothing (IsPut (meta_path before f n Manifest) text))
       → Ends rose (IsMadeBy s0 s3 p0 p3) (copy_plan before f n held order schema) (Err stop)
@@ -72,7 +79,7 @@ module _ (before f n : List ℕ) (held : Option Snapshot) (order : List FileKey)
   -- the files were put, and there was no memory for the manifest
   pub text_stopped : (stop : Stop) (files : List FileRecord) (s0 s1 s2 : State)
       (p0 p1 p2 : History)
-      → StopsAt {T = Unit {0}} rose Passed on_storage stop
+      → StopsAt {T = Unit {0}} rose Passed (on Storage) stop
       → IsMadeBy s0 s1 p0 p1 first → IsMadeBy s1 s2 p1 p2 (files_put files)
       → Ends rose (IsMadeBy s0 s2 p0 p2) (copy_plan before f n held order schema) (Err stop)
   text_stopped stop files s0 s1 s2 p0 p1 p2 why schema_made all =
@@ -115,7 +122,7 @@ module _ (before f n : List ℕ) (held : Option Snapshot) (order : List FileKey)
 pub copy_stop : (before f n : List ℕ) (held : Option Snapshot) (order : List FileKey)
     (rb rn sb sm sn : ℕ) → sb ≤ sm → (fault : CopyFault)
     → rose_of_node rb rn sm sn (device_of fault)
-    → StopsAt (rose_of_node rb rn sb sn) (Copies before f n held order) on_both
+    → StopsAt (rose_of_node rb rn sb sn) (Copies before f n held order) (Nodes ∷ on Storage)
     (stop_of_fault fault)
 copy_stop before f n held order rb rn sb sm sn later Snap rose = (inl refl, rose)
 copy_stop before f n held order rb rn sb sm sn later Store rose = (inr (inl refl), omega arith)

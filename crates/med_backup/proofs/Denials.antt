@@ -4,12 +4,11 @@ use Rattle.med_outside.specs.declared.denied.Denied.{Denied}
 use Rattle.med_outside.specs.declared.denied.Denied.TheVariants.{Failed, Memory}
 use Rattle.med_outside.specs.Causes.{RoseOrFull}
 use Rattle.med_outside.specs.Counts.{SnapshotCounts, Tagged, after_open, with_opened}
-use Rattle.med_outside.specs.Ends.{Refusal, StopsAt}
+use Rattle.med_outside.specs.Ends.{Storage, on, Refusal, StopsAt}
 use Rattle.med_outside.specs.State.{State, ChangesOnce, History}
 use Rattle.med_outside.specs.Storage.{MayPut}
 use Rattle.med_outside.specs.World.{rose_of_node}
 use Rattle.med_backup.specs.Errors.{fault_of, stop_of_fault}
-use Rattle.med_backup.specs.Plan.{on_storage}
 use Rattle.med_backup.specs.declared.place.CopyFault.{CopyFault}
 use Rattle.med_backup.specs.declared.place.CopyFault.TheVariants.{Store}
 
@@ -58,16 +57,16 @@ pub store_stop : {T U : Type 0} (answers : Result U Refusal → Type 0) (A : T �
     → false ≡ is_ok r → MatchResult r A Q
     → ((denied : Denied) → Q denied → fault ≡ fault_of Store denied)
     → (r ≡ Err Failed → RoseOrFull sm sn) → sb ≤ sm
-    → StopsAt (rose_of_node rb rn sb sn) answers on_storage (stop_of_fault fault)
+    → StopsAt (rose_of_node rb rn sb sn) answers (on Storage) (stop_of_fault fault)
 store_stop answers A Q rb rn sb sm sn (Ok x) fault e is gives rose later = absurd (cc e)
 store_stop answers A Q rb rn sb sm sn (Err Failed) fault e is gives rose later =
     let risen = rose refl in
     subst
-    (λ (f : CopyFault). StopsAt (rose_of_node rb rn sb sn) answers on_storage (stop_of_fault f))
+    (λ (f : CopyFault). StopsAt (rose_of_node rb rn sb sn) answers (on Storage) (stop_of_fault f))
     (sym (gives Failed is)) (inl refl, omega (arith, risen, later))
 store_stop answers A Q rb rn sb sm sn (Err Memory) fault e is gives rose later =
     subst
-    (λ (f : CopyFault). StopsAt (rose_of_node rb rn sb sn) answers on_storage (stop_of_fault f))
+    (λ (f : CopyFault). StopsAt (rose_of_node rb rn sb sn) answers (on Storage) (stop_of_fault f))
     (sym (gives Memory is)) (inr (inl refl), tt)
 
 -- the counts after a call that opened a snapshot

@@ -16,7 +16,8 @@ use Rattle.med_manifest.specs.Written.{manifest_text}
 use Rattle.med_base.specs.Effects.{Effect, Stores, applied}
 use Rattle.med_outside.specs.Snapshot.{Snapshot}
 use Rattle.med_backup.specs.Backup.{HoldsBytes, IsFileOf, IsBackupOf, AddsAt, paths_of, FinishesBackup}
-use Rattle.med_backup.specs.Copies.{Copy, key_of, put_of, record_of, AreOf, HasAll}
+use Rattle.med_backup.specs.Copies.{Copy, put_of, record_of, HasAll}
+use Rattle.med_backup.proofs.CopyLemmas.{key_of, AreOf}
 use Rattle.med_backup.proofs.Apart.{own_under, meta_under, own_or_meta, schema_or_manifest, later_apart, meta_apart}
 use Rattle.med_base.proofs.Lists.{all_append}
 use Rattle.med_backup.proofs.Stands.{NoneHas, path_of, stays, put_stays, last_put}

@@ -1,5 +1,6 @@
 pub mod Apart
 pub mod Copied
+pub mod CopyLemmas
 pub mod CopySteps
 pub mod Denials
 pub mod Finished

@@ -2,15 +2,16 @@
 use Rattle.std.proofs.Common.{◌≡◌, ◌≤◌, ◌+◌, ◌-◌, ◌^◌, min, ℕ, List, [], Option, sym, ◌∙◌, subst, arith, Result, Ok, Err, OnOk}
 use Rattle.med_base.specs.Content.{Content}
 use Rattle.med_manifest.specs.declared.manifest.FileRecord.{FileRecord}
+use Rattle.med_outside.specs.Counts.{opened_once}
 use Rattle.med_outside.specs.Ends.{Device, Files, Nodes, Storage, Output, Memory}
 use Rattle.med_outside.specs.Snapshot.{Snapshot}
 use Rattle.med_outside.specs.State.{State, Changes, ChangesWithin, History}
 use Rattle.med_outside.specs.World.{NodesState, rose_of_node}
 use Rattle.med_outside.proofs.Passing.{after_all-nothing}
 use Rattle.med_backup.specs.BackedUp.{IsFound, IsBackedUpFrom}
-use Rattle.med_backup.specs.Copies.{IsMadeBy, HasAll}
+use Rattle.med_backup.specs.Copies.{ChangeLists, IsMadeBy, HasAll}
 use Rattle.med_backup.specs.NodeConfig.{NodeConfig, opened_at}
-use Rattle.med_backup.specs.Plan.{Left, Leaves}
+use Rattle.med_backup.specs.Plan.{Left, Leaves, tagged_at}
 use Rattle.med_backup.proofs.Made.{made_later}
 
 -- what holds holds after a good answer
@@ -44,6 +45,14 @@ closed_rose nb nm nn fresh snap sb sn later zero_is sum Memory h = h
 pub same_content : (s0 s1 : State) (p0 p1 : History) → Changes [] s0 s1 p0 p1
     → s1.content ≡ s0.content
 same_content s0 s1 p0 p1 a = a.content ∙ after_all-nothing s0.content
+
+-- the bucket was opened, the snapshot was opened and closed, and one of these lists was made
+abbrev pub worked : NodeConfig → List ℕ → ChangeLists → Left
+worked node_config n made = record {
+  bucket = opened_at node_config;
+  counts = opened_once (tagged_at node_config n);
+  made = made;
+}
 
 -- what is left over a bucket that was opened first
 pub left_later : (node_config : NodeConfig) (nodes nodes_now : NodesState) (s0 s1 s2 : State)

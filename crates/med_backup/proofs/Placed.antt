@@ -10,7 +10,8 @@ use Rattle.med_base.specs.Effects.{Effect, Stores}
 use Rattle.med_outside.specs.Snapshot.{Snapshot, HasKey}
 use Rattle.med_outside.specs.State.{State, ChangesWithin, History}
 use Rattle.med_outside.proofs.Passing.{moves_on}
-use Rattle.med_backup.specs.Copies.{Copy, key_of, put_of, record_of, AreOf, IsMadeBy, OrNothing, ArePut, AreFirstPut}
+use Rattle.med_backup.specs.Copies.{Copy, put_of, record_of, IsMadeBy, OrNothing, ArePut, AreFirstPut}
+use Rattle.med_backup.proofs.CopyLemmas.{key_of, AreOf}
 use Rattle.med_backup.specs.Sent.{IsFilePut, IsSomeFilePut}
 use Rattle.std.proofs.lemmas.List.{map-append}
 use Rattle.med_base.proofs.Lists.{all_append, all_at}

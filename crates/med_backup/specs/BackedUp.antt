@@ -1,5 +1,5 @@
 -- What a backup found, and what it made of it.
-use Rattle.std.specs.Prelude.{List, ℕ, Option, Ok}
+use Rattle.std.specs.Prelude.{◌≡◌, List, ℕ, Option, IfSome, Ok}
 use Rattle.med_base.specs.declared.key.FileKey.{FileKey}
 use Rattle.med_base.specs.Content.{Content}
 use Rattle.med_manifest.specs.declared.manifest.FileRecord.{FileRecord}
@@ -8,13 +8,13 @@ use Rattle.med_manifest.specs.Written.{manifest_text}
 use Rattle.med_outside.specs.Snapshot.{Snapshot}
 use Rattle.med_outside.specs.State.{State, History}
 use Rattle.med_backup.specs.Copies.{IsMadeBy, HasAll}
-use Rattle.med_backup.specs.Plan.{Walks, ReadsSchema, FindsFree}
+use Rattle.med_backup.specs.Plan.{Walks, FindsFree}
 
 -- these are the keys of the snapshot in order and its schema, and the name of the backup is free
 pub record IsFound (before f n : List ℕ) (held : Option Snapshot) (told : Option Content)
     (order : List FileKey) (schema : List ℕ) : Type 0 where
   pub walks : Walks n held (Ok order)
-  pub reads : ReadsSchema held (Ok schema)
+  pub reads : IfSome held (λ s. schema ≡ s.schema)
   pub free : FindsFree before f n told (Ok tt)
 
 -- The backup was made of all that was found: exactly its puts were made, and the text of the

@@ -49,14 +49,6 @@ pub record Copy : Type 0 where
   pub bytes : List ℕ
   pub second : ℕ
 
-abbrev pub key_of : Copy → FileKey
-key_of c = c.key
-
--- these are bytes of files of the snapshot, where it is told
-abbrev pub AreOf : Option Snapshot → List Copy → Type 0
-AreOf held copies = IfSome held
-    (λ s. AllByRecursion (λ (c : Copy). get s.files c.key ≡ Some c.bytes) copies)
-
 -- the text before each path of the bucket, the node, and the name of the backup
 module _ (before f n : List ℕ) where
   -- the put of a file, under its own path
@@ -82,8 +74,9 @@ module _ (before f n : List ℕ) where
     pub record ArePut (keys : List FileKey) (files : List FileRecord) (xs : List Effect) : Type 0
       where
         pub copies : List Copy
-        pub keys_are : map key_of copies ≡ keys
-        pub bytes_are : AreOf held copies
+        pub keys_are : map (λ (c : Copy). c.key) copies ≡ keys
+        pub bytes_are : IfSome held
+            (λ s. AllByRecursion (λ (c : Copy). get s.files c.key ≡ Some c.bytes) copies)
         pub files_are : files ≡ map record_of copies
         pub xs_are : xs ≡ map put_of copies
 

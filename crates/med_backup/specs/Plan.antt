@@ -9,7 +9,7 @@ use Rattle.med_base.specs.Layout.{backup_folder}
 use Rattle.med_manifest.specs.declared.manifest.FileRecord.{FileRecord}
 use Rattle.med_outside.specs.Counts.{SnapshotCounts, Tagged, tagged, opened_once}
 use Rattle.med_base.specs.Effects.{Effect}
-use Rattle.med_outside.specs.Ends.{Device, Nodes, Storage, Memory, Refusal, Taken, NoSnapshot, BadFileName, Plan, last, step, then, said_as}
+use Rattle.med_outside.specs.Ends.{Nodes, Storage, on, Refusal, Taken, NoSnapshot, BadFileName, Plan, last, step, Answers, then, said_as}
 use Rattle.med_outside.specs.Snapshot.{Snapshot}
 use Rattle.med_outside.specs.State.{State, History}
 use Rattle.med_outside.specs.World.{NodesState, Snapshots}
@@ -18,16 +18,7 @@ use Rattle.med_backup.specs.NodeConfig.{NodeConfig, opened_at, snap_at, tag_of}
 use Rattle.med_backup.specs.Taken.{IsFree, IsFirstUnder}
 use Rattle.med_backup.specs.Walked.{CanBeWalked, IsFirstBad}
 
--- ---- what the steps ask, and what they answer
-
-abbrev pub on_nodes : List Device
-on_nodes = Nodes ∷ Memory ∷ []
-
-abbrev pub on_storage : List Device
-on_storage = Storage ∷ Memory ∷ []
-
-abbrev pub on_both : List Device
-on_both = Nodes ∷ Storage ∷ Memory ∷ []
+-- ---- what the steps answer
 
 -- nothing is refused
 abbrev pub Passed : {T : Type 0} → Result T Refusal → Type 0
@@ -43,11 +34,6 @@ Walks n held (Err (NoSnapshot name)) = (name ≡ n) × IfSome held (λ s. s.orde
 Walks n held (Err (BadFileName at)) = IfSome held (λ s. IsFirstBad at s.order)
 Walks n held (Err f) = ⊥
 
--- the schema of the snapshot
-abbrev pub ReadsSchema : Option Snapshot → Result (List ℕ) Refusal → Type 0
-ReadsSchema held (Ok schema) = IfSome held (λ s. schema ≡ s.schema)
-ReadsSchema held (Err f) = ⊥
-
 -- the text before each path of the bucket, the node, and the name of the backup
 module _ (before f n : List ℕ) where
   -- the folder of the backup is free, or this is the first path under it
@@ -58,27 +44,24 @@ module _ (before f n : List ℕ) where
   FindsFree told (Err e) = ⊥
 
   module _ (held : Option Snapshot) where
-    -- this is what the manifest records of files with these keys that were put
-    abbrev pub Copies : List FileKey → Result (List FileRecord) Refusal → Type 0
-    Copies order (Ok files) = (xs : List Effect) × ArePut before f n held order files xs
-    Copies order (Err e) = ⊥
-
     -- ---- the plans
 
     -- the look before anything is put: the keys, the schema, and whether the name is free
     abbrev pub look_plan : Option Content → Plan ChangeLists (List FileKey × List ℕ)
     look_plan told =
-        step (Walks n held) on_nodes IsNothing (λ order.
-        step (ReadsSchema held) on_nodes IsNothing (λ schema.
-        step (FindsFree told) on_storage IsNothing (λ _. last IsNothing (order, schema))))
+        step (Walks n held) (on Nodes) IsNothing (λ order.
+        step (Answers (λ schema. IfSome held (λ s. schema ≡ s.schema))) (on Nodes) IsNothing
+        (λ schema.
+        step (FindsFree told) (on Storage) IsNothing (λ _. last IsNothing (order, schema))))
 
     -- the puts: the schema, the files, and the manifest
     abbrev pub copy_plan : List FileKey → (schema : List ℕ) → Plan ChangeLists (List FileRecord)
     copy_plan order schema =
-        step {T = Unit {0}} Passed on_storage (OrNothing (IsSchemaPut before f n schema)) (λ _.
-        step (Copies order) on_both
+        step {T = Unit {0}} Passed (on Storage) (OrNothing (IsSchemaPut before f n schema)) (λ _.
+        step (Answers (λ files. (xs : List Effect) × ArePut before f n held order files xs))
+        (Nodes ∷ on Storage)
         (FollowedBy (IsSchemaPut before f n schema) (AreFirstPut before f n held order)) (λ files.
-        step {T = Unit {0}} Passed on_storage
+        step {T = Unit {0}} Passed (on Storage)
         (FollowedBy (HasFiles before f n held order schema files)
         (OrNothing (IsManifestPut before f n files)))
         (λ _. last (HasAll before f n held order schema files) files)))
@@ -94,35 +77,25 @@ pub record Left : Type 1 where
   pub counts : SnapshotCounts → SnapshotCounts
   pub made : ChangeLists
 
--- no bucket was opened, no snapshot was, and nothing changed
-abbrev pub unopened : Left
-unopened = record { bucket = λ s. s; counts = λ c. c; made = IsNothing }
-
 module _ (node_config : NodeConfig) (n : List ℕ) where
   -- what is opened for the backup
   abbrev pub tagged_at : Tagged
   tagged_at = tagged node_config.nodes_root node_config.node (tag_of n)
 
-  -- the bucket was opened, no snapshot was, and nothing changed
-  abbrev pub bucket_opened : Left
-  bucket_opened = record { bucket = opened_at node_config; counts = λ c. c; made = IsNothing }
-
-  -- the bucket was opened, the snapshot was opened and closed, and one of these lists was made
-  abbrev pub worked : ChangeLists → Left
-  worked made =
-      record { bucket = opened_at node_config; counts = opened_once tagged_at; made = made }
-
   -- the work on a node whose bucket is open
   abbrev pub opened_plan : Snapshots → Option Content → Plan Left (List FileRecord)
   opened_plan snaps told =
-      step {T = Unit {0}} Passed on_nodes bucket_opened (λ _.
-      said_as worked
+      step {T = Unit {0}} Passed (on Nodes)
+      (record { bucket = opened_at node_config; counts = λ c. c; made = IsNothing }) (λ _.
+      said_as (λ (made : ChangeLists).
+      record { bucket = opened_at node_config; counts = opened_once tagged_at; made = made })
       (snapshot_plan node_config.before node_config.node n (snap_at snaps node_config n) told))
 
   -- the work on a node: the bucket, and then the same
   abbrev pub node_plan : Snapshots → Option Content → Plan Left (List FileRecord)
   node_plan snaps told =
-      step {T = Unit {0}} Passed on_storage unopened (λ _. opened_plan snaps told)
+      step {T = Unit {0}} Passed (on Storage)
+      (record { bucket = λ s. s; counts = λ c. c; made = IsNothing }) (λ _. opened_plan snaps told)
 
 -- this is left: one of its lists was made over the bucket that it says, and the counts are its own
 abbrev pub Leaves : (nodes nodes_now : NodesState) → (old new : State)

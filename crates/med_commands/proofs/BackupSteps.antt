@@ -19,7 +19,7 @@ use Rattle.med_ini.specs.declared.overrides.Overrides.{Overrides}
 use Rattle.med_outside.specs.Causes.{RoseOrFull}
 use Rattle.med_outside.specs.Counts.{opened_once}
 use Rattle.med_base.specs.Effects.{Effect, after_all}
-use Rattle.med_outside.specs.Ends.{Device, Files, Nodes, Storage, Output, Memory, StopsAt, Steps, Ends, seen}
+use Rattle.med_outside.specs.Ends.{Device, Files, Nodes, Storage, Output, Memory, on, StopsAt, Steps, Ends, seen}
 use Rattle.med_outside.specs.Snapshot.{Snapshot}
 use Rattle.med_outside.proofs.EndsLemmas.{stops}
 use Rattle.med_outside.specs.World.{FileContents, World, IsLater, rose_of, rose_of_node, rose_of_output}
@@ -28,10 +28,13 @@ use Rattle.med_words.specs.Request.{Asked}
 use Rattle.med_words.specs.Tables.{Action, backup}
 use Rattle.med_backup.specs.BackedUp.{IsBackedUpFrom}
 use Rattle.med_backup.specs.Backup.{FinishesBackup, IsBackupOf}
-use Rattle.med_backup.specs.Copies.{Copy, key_of, AreOf}
+use Rattle.med_backup.specs.Copies.{Copy}
+use Rattle.med_backup.proofs.CopyLemmas.{key_of, AreOf}
 use Rattle.med_backup.specs.Errors.{stop_of as stop_of_error}
 use Rattle.med_backup.specs.Plan.{Passed, tagged_at}
 use Rattle.med_backup.specs.NodeConfig.{NodeConfig, opened_at, snap_at}
+use Rattle.med_backup.specs.Taken.{IsFree}
+use Rattle.med_backup.specs.Walked.{CanBeWalked}
 use Rattle.med_backup.specs.declared.look.BackupError.{BackupError}
 use Rattle.med_backup.specs.declared.look.BackupError.TheVariants as error
 use Rattle.med_backup.specs.declared.place.CopyFault.TheVariants as copy
@@ -39,7 +42,7 @@ use Rattle.med_backup.proofs.Finished.{records_of, backup_puts, all_puts, finish
 use Rattle.med_commands.specs.Fault.{stop_of, stop_of_load, fault_for}
 use Rattle.med_commands.specs.Headline.{End, says}
 use Rattle.med_commands.specs.Loaded.{AreOverrides, IsConfigFile, IsRefused, no_file, no_ini, bad_option, BlamesLoad}
-use Rattle.med_commands.specs.Plans.{on_files, on_output, ReadsConfig, IfTold, IsDone, prints, backup_plan, action_plan, plan_of}
+use Rattle.med_commands.specs.Plans.{ReadsConfig, IfTold, IsDone, prints, backup_plan, action_plan, plan_of}
 use Rattle.med_commands.specs.Printed.{Wrote, WrotePart}
 use Rattle.med_commands.specs.Texts.{no_file_text, option_text}
 use Rattle.med_commands.specs.declared.fault.Fault.{Fault}
@@ -131,11 +134,20 @@ done_of node_config n a b files m counts =
           (told_backup node_config.before node_config.node n m.schema puts.at puts.end puts.copies
           held old.content new.content content m.found.free rising names manifest puts.bytes_are
           keys_are m.found.reads);
-      walked = m.found.walks.2;
-      was_free = m.found.free;
       snapshot = counts;
       made = m;
     }
+
+-- a backup that is done is of a snapshot whose keys are names of files
+pub done_walked : (node_config : NodeConfig) (n : List ℕ) (a b : World) (files : List FileRecord)
+    → IsDone node_config n a b files → IfSome (snap_at a.nodes.snaps node_config n) CanBeWalked
+done_walked node_config n a b files done = done.made.found.walks.2
+
+-- and its name was free
+pub done_free : (node_config : NodeConfig) (n : List ℕ) (a b : World) (files : List FileRecord)
+    → IsDone node_config n a b files
+    → IsFree node_config.before node_config.node n a.store.content
+done_free node_config n a b files done = done.made.found.free
 
 -- ---- steps
 
@@ -152,7 +164,7 @@ option_stop bytes over fault file overrides (entries, is, first) =
 pub load_stop : (files : FileContents) (asked : Asked) (rose : Device → Type 0) (before now : ℕ)
     → (RoseOrFull before now → rose Files) → rose Memory → (e : LoadError)
     → BlamesLoad files asked before now e
-    → StopsAt rose (ReadsConfig files asked) on_files (stop_of_load e)
+    → StopsAt rose (ReadsConfig files asked) (on Files) (stop_of_load e)
 load_stop files asked rose before now up memory (load.NoFile name) h =
     no_file h.1 (ap no_file_text h.0)
 load_stop files asked rose before now up memory (load.Ini (ini.Fault line kind)) h =
@@ -212,7 +224,7 @@ later_itself a = record {
 
 -- the last step of a command
 pub printed : (a b : World) (line : List ℕ) (done : Type 0) (r : Result (Unit {0}) Fault)
-    → Steps {T = Unit {0}} (rose_of_output a.out.faults b.out.faults) Passed on_output
+    → Steps {T = Unit {0}} (rose_of_output a.out.faults b.out.faults) Passed (on Output)
     (seen (λ x. x) stop_of r)
     → done → OnOk r (Wrote line a.out.taken b.out.taken)
     → OnErr r (WrotePart line a.out.taken b.out.taken)
@@ -221,7 +233,7 @@ printed a b line done (Ok x) steps d whole part = inr (x, tt, (refl, (d, whole))
 printed a b line done (Err fault) steps d whole part =
     inl (
       stops (rose_of_output a.out.faults b.out.faults) (rose_of a b) (up_output a b)
-          (Passed {T = Unit {0}}) on_output (stop_of fault) steps,
+          (Passed {T = Unit {0}}) (on Output) (stop_of fault) steps,
       (d, part),
     )
 

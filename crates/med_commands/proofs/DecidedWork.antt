@@ -7,7 +7,8 @@ use Rattle.med_base.specs.declared.key.FileKey.{FileKey}
 use Rattle.med_base.specs.Key.{IsKey}
 use Rattle.med_base.proofs.Lists.{not_all}
 use Rattle.med_backup.specs.Copies.{ChangeLists}
-use Rattle.med_backup.specs.Plan.{Left, Leaves, worked, Walks, FindsFree, copy_plan, snapshot_plan, node_plan}
+use Rattle.med_backup.specs.Plan.{Left, Leaves, Walks, FindsFree, copy_plan, snapshot_plan, node_plan}
+use Rattle.med_backup.proofs.NodeSteps.{worked}
 use Rattle.med_backup.specs.NodeConfig.{NodeConfig, snap_at}
 use Rattle.med_backup.specs.Taken.{first_path}
 use Rattle.med_backup.specs.Walked.{CanBeWalked, IsFirstBad}
@@ -16,7 +17,7 @@ use Rattle.med_outside.specs.Ends.{Refusal, BadWords, NotBuilt, BadConfig, Taken
 use Rattle.med_outside.specs.Snapshot.{Snapshot}
 use Rattle.med_outside.specs.World.{World}
 use Rattle.med_commands.specs.Headline.{End}
-use Rattle.med_commands.specs.Plans.{IsDone, IsSilent, prints}
+use Rattle.med_commands.specs.Plans.{IsDone, prints}
 use Rattle.med_commands.specs.Report.{report_line}
 
 -- what follows from each value that a step answers, and from each of its refusals, follows
@@ -70,7 +71,7 @@ module _ (node_config : NodeConfig) (n : List ℕ) (a b : World) where
   -- what is left of the work, in words of the command
   abbrev word : Left → Type 0
   word left =
-      Leaves a.nodes b.nodes a.store b.store a.stood b.stood left × IsSilent a b
+      Leaves a.nodes b.nodes a.store b.store a.stood b.stood left × (b.out ≡ a.out)
 
   -- what follows the work
   abbrev ending : List FileRecord → Plan (Type 0) (Unit {0})

@@ -6,12 +6,10 @@ use Rattle.med_backup.specs.Backup.{FinishesBackup, IsBackupOf}
 use Rattle.med_backup.specs.Plan.{Passed, Left, Leaves, node_plan, tagged_at}
 use Rattle.med_backup.specs.BackedUp.{IsBackedUpFrom}
 use Rattle.med_backup.specs.NodeConfig.{NodeConfig, node_config_of, opened_at, snap_at}
-use Rattle.med_backup.specs.Taken.{IsFree}
-use Rattle.med_backup.specs.Walked.{CanBeWalked}
 use Rattle.med_ini.specs.declared.config.Config.{Config}
 use Rattle.med_manifest.specs.declared.manifest.FileRecord.{FileRecord}
 use Rattle.med_outside.specs.Counts.{opened_once}
-use Rattle.med_outside.specs.Ends.{Device, Files, Output, Memory, Refusal, BadWords, NotBuilt, BadConfig, Plan, last, step, then, said_as}
+use Rattle.med_outside.specs.Ends.{Files, Output, Memory, on, Refusal, BadWords, NotBuilt, BadConfig, Plan, last, step, then, said_as}
 use Rattle.med_outside.specs.State.{ChangesWithin}
 use Rattle.med_outside.specs.World.{FileContents, World}
 use Rattle.med_outside.specs.declared.mode.Mode.TheVariants.{Full}
@@ -24,17 +22,6 @@ use Rattle.med_commands.specs.Loaded.{IsConfigured, IsRefused}
 use Rattle.med_commands.specs.Printed.{Wrote, WrotePart}
 use Rattle.med_commands.specs.Report.{report_line}
 use Rattle.med_commands.specs.Texts.{usage_text}
-
--- ---- what steps ask
-
-abbrev pub on_files : List Device
-on_files = Files ∷ Memory ∷ []
-
-abbrev pub on_output : List Device
-on_output = Output ∷ Memory ∷ []
-
-abbrev pub on_memory : List Device
-on_memory = Memory ∷ []
 
 -- ---- what steps answer
 
@@ -55,15 +42,11 @@ ReadsWords words (Err f) = ⊥
 
 -- ---- what a command leaves
 
--- nothing was printed
-abbrev pub IsSilent : World → World → Type 0
-IsSilent a b = b.out ≡ a.out
-
 -- neither the storage nor the nodes were asked anything, and nothing was printed
 abbrev pub IsUntouched : World → World → Type 0
 IsUntouched a b =
     (b.store ≡ a.store) × ChangesWithin [] a.store b.store a.stood b.stood × (b.nodes ≡ a.nodes)
-    × IsSilent a b
+    × (b.out ≡ a.out)
 
 -- nothing was asked at all
 abbrev pub IsUnasked : World → World → Type 0
@@ -73,9 +56,9 @@ IsUnasked a b = IsUntouched a b × (b.files ≡ a.files)
 abbrev pub IfTold : Option Content → Option Content → (Content → Content → Type 0) → Type 0
 IfTold old new P = IfSome old (λ c. IfSome new (λ d. P c d))
 
--- The backup of the name is finished and whole and is one of the snapshot, whose keys are names of
--- files; the name was free, and nothing else changed. Exactly its puts were made, in the bucket of
--- the config file, which was opened for it, and exactly its snapshot was opened, and closed again.
+-- The backup of the name is finished and whole and is one of the snapshot, and nothing else
+-- changed. It was made of what was found, by exactly its puts, in the bucket of the config file,
+-- which was opened for it; and exactly its snapshot was opened, and closed again.
 pub record IsDone (node_config : NodeConfig) (n : List ℕ) (a b : World) (files : List FileRecord) :
     Type 0 where
   pub finished : IfTold a.store.content b.store.content
@@ -83,8 +66,6 @@ pub record IsDone (node_config : NodeConfig) (n : List ℕ) (a b : World) (files
   pub backup : IfTold a.store.content b.store.content
       (λ c d. IfSome (snap_at a.nodes.snaps node_config n)
       (λ s. IsBackupOf node_config.before node_config.node n s c d files))
-  pub walked : IfSome (snap_at a.nodes.snaps node_config n) CanBeWalked
-  pub was_free : IsFree node_config.before node_config.node n a.store.content
   pub snapshot : b.nodes.counts ≡ opened_once (tagged_at node_config n) a.nodes.counts
   pub made : IsBackedUpFrom node_config.before node_config.node n
       (snap_at a.nodes.snaps node_config n)
@@ -95,15 +76,15 @@ pub record IsDone (node_config : NodeConfig) (n : List ℕ) (a b : World) (files
 -- the last step prints a line; it was written whole, or in part
 abbrev pub prints : List ℕ → (done : Type 0) → (a b : World) → Plan (Type 0) (Unit {0})
 prints line done a b =
-    step {T = Unit {0}} Passed on_output (done × WrotePart line a.out.taken b.out.taken)
+    step {T = Unit {0}} Passed (on Output) (done × WrotePart line a.out.taken b.out.taken)
     (λ x. last (done × Wrote line a.out.taken b.out.taken) x)
 
 -- the full backup of a node
 abbrev pub backup_plan : Asked → List ℕ → (a b : World) → Plan (Type 0) (Unit {0})
 backup_plan asked n a b =
-    step (ReadsConfig a.files.contents asked) on_files (IsUntouched a b) (λ node_config.
+    step (ReadsConfig a.files.contents asked) (on Files) (IsUntouched a b) (λ node_config.
     then (said_as (λ (left : Left). Leaves a.nodes b.nodes a.store b.store a.stood b.stood left
-    × IsSilent a b) (node_plan node_config n a.nodes.snaps a.store.content)) (λ files.
+    × (b.out ≡ a.out)) (node_plan node_config n a.nodes.snaps a.store.content)) (λ files.
     prints (report_line n node_config.node files) (IsDone node_config n a b files) a b))
 
 -- a command that isn't built yet
@@ -121,4 +102,4 @@ plan_of asked a b = action_plan asked.action asked a b
 -- the words are read first
 abbrev pub words_plan : List (List ℕ) → (a b : World) → Plan (Type 0) (Unit {0})
 words_plan words a b =
-    step (ReadsWords words) on_memory (IsUnasked a b) (λ asked. plan_of asked a b)
+    step (ReadsWords words) (Memory ∷ []) (IsUnasked a b) (λ asked. plan_of asked a b)

@@ -1,7 +1,7 @@
 // The command `backup`.
 ghost use Rattle.std.specs.Prelude.{◌≡◌, ◌≤◌, OnOk, OnErr};
 ghost use Rattle.med_outside.specs.declared.mode.Mode.TheVariants.{Full};
-ghost use Rattle.med_outside.specs.Ends.{Ends, Steps, seen};
+ghost use Rattle.med_outside.specs.Ends.{Output, on, Ends, Steps, seen};
 ghost use Rattle.med_outside.specs.State.{IsAtRest};
 ghost use Rattle.med_outside.specs.World.{world, rose_of, rose_of_output, IsLater};
 ghost use Rattle.med_backup.specs.Plan.{Passed};
@@ -9,7 +9,7 @@ ghost use Rattle.med_words.specs.Views.{asked_of};
 ghost use Rattle.med_words.specs.Tables.{backup};
 ghost use Rattle.med_commands.specs.Fault.{stop_of};
 ghost use Rattle.med_commands.specs.Headline.{says};
-ghost use Rattle.med_commands.specs.Plans.{on_output, plan_of};
+ghost use Rattle.med_commands.specs.Plans.{plan_of};
 ghost use Rattle.med_commands.specs.Printed.{Wrote, WrotePart};
 ghost use Rattle.med_commands.specs.Report.{report_line};
 
@@ -33,7 +33,7 @@ fn print_line<O: Sink>(
     out: &mut O,
 ) -> Result<(), Fault>
     ensures step { Steps {T = Unit {0}}
-        (rose_of_output (O.state out.old).faults (O.state out.new).faults) Passed on_output
+        (rose_of_output (O.state out.old).faults (O.state out.new).faults) Passed (on Output)
         (seen (λ x. x) stop_of result) }
     ensures ok { OnOk result
         (Wrote (report_line name.now node.now files.now) (O.state out.old).taken

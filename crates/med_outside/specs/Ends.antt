@@ -9,6 +9,10 @@ pub data Device : Type 0 where
   Output : Device
   Memory : Device
 
+-- what a step asks that asks one device: it, and memory
+abbrev pub on : Device → List Device
+on d = d ∷ Memory ∷ []
+
 -- what a command refuses, with the texts that it tells
 pub data Refusal : Type 0 where
   -- the words ask for nothing
@@ -36,6 +40,10 @@ pub data Plan (W : Type 1) (R : Type 0) : Type 1 where
   last : (good : W) → (result : R) → Plan W R
   step : {T : Type 0} → (answers : Result T Refusal → Type 0) → (on : List Device) → (leaves : W)
       → (rest : T → Plan W R) → Plan W R
+
+-- a step that refuses nothing answers a value of which this holds
+abbrev pub Answers : {T : Type 0} → (T → Type 0) → Result T Refusal → Type 0
+Answers holds r = MatchResult r holds (λ _. ⊥)
 
 abbrev pub IsAmong : Device → List Device → Type 0
 IsAmong d [] = ⊥

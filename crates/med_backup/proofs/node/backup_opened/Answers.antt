@@ -7,10 +7,10 @@ use Rattle.med_outside.proofs.EndsLemmas.{carried_as}
 use Rattle.med_outside.proofs.OpenPlaces.{closed_again}
 use Rattle.med_backup.specs.Copies.{ChangeLists, IsMadeBy}
 use Rattle.med_backup.specs.Errors.{stop_of}
-use Rattle.med_backup.specs.Plan.{Left, worked, snapshot_plan}
+use Rattle.med_backup.specs.Plan.{Left, snapshot_plan}
 use Rattle.med_backup.specs.NodeConfig.{node_config_of, opened_at, snap_at, tag_of}
 use Rattle.med_backup.proofs.Denials.{value_of, counts_of}
-use Rattle.med_backup.proofs.NodeSteps.{closed_rose, on_ok}
+use Rattle.med_backup.proofs.NodeSteps.{closed_rose, on_ok, worked}
 use Rattle.med_backup.proofs.node.backup_opened.Goals as goal
 
 pub returns-clause-snapshot : goal.returns-clause-snapshot

@@ -1,4 +1,4 @@
-use Rattle.std.proofs.Common.{Ok, Err, inl, inr, refl}
+use Rattle.std.proofs.Common.{◌≡◌, Ok, Err, inl, inr, refl}
 use Rattle.std.proofs.lemmas.Result.{err_from_is_err_and}
 use Rattle.med_outside.specs.Ends.{Failed, Memory, seen, said_as}
 use Rattle.med_outside.specs.World.{world, rose_of, rose_of_node}
@@ -10,7 +10,7 @@ use Rattle.med_backup.specs.Plan.{Left, Leaves, node_plan}
 use Rattle.med_backup.specs.NodeConfig.{node_config_of}
 use Rattle.med_commands.specs.Fault.{stop_of, stop_of_load}
 use Rattle.med_commands.specs.Headline.{says}
-use Rattle.med_commands.specs.Plans.{IsSilent, IsDone, prints}
+use Rattle.med_commands.specs.Plans.{IsDone, prints}
 use Rattle.med_commands.specs.Report.{report_line}
 use Rattle.med_commands.proofs.BackupSteps.{done_of, load_stop, stop_for, up_node, printed, asked_plan}
 use Rattle.med_commands.proofs.backup.back_up.Goals as goal
@@ -54,7 +54,7 @@ returns-in-Err-backup_node-clause-ends g c =
     let low = rose_of_node a.nodes.faults b.nodes.faults a.store.faults b.store.faults in
     let means = Leaves a.nodes b.nodes a.store b.store a.stood b.stood in
     let plan = node_plan node_config c.args.name.now a.nodes.snaps a.store.content in
-    let word : Left → Type 0 = λ (left : Left). means left × IsSilent a b in
+    let word : Left → Type 0 = λ (left : Left). means left × (b.out ≡ a.out) in
     let stop = stop_of_error c.args.name.now c.in-Err-backup_node.error in
     rw (c.fault_of.ensures, c.in-Ok.ensures, stop_for c.args.name.now c.in-Err-backup_node.error)
     (asked_plan (asked_of c.args.request.now) c.args.name.now a b (Err stop) c.requires.asks
@@ -82,7 +82,7 @@ returns-in-Ok-backup_node-clause-ends g c =
     let low = rose_of_node a.nodes.faults b.nodes.faults a.store.faults b.store.faults in
     let means = Leaves a.nodes b.nodes a.store b.store a.stood b.stood in
     let plan = node_plan node_config c.args.name.now a.nodes.snaps a.store.content in
-    let word : Left → Type 0 = λ (left : Left). means left × IsSilent a b in
+    let word : Left → Type 0 = λ (left : Left). means left × (b.out ≡ a.out) in
     asked_plan (asked_of c.args.request.now) c.args.name.now a b end c.requires.asks
     (inr (
       node_config,
