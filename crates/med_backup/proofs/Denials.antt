@@ -18,14 +18,14 @@ on_err (Ok x) h = tt
 on_err (Err e) h = h
 
 -- the call was a good one
-pub good : {T E P : Type 0} (r : Result T E) → true ≡ is_ok r → OnOk r P → P
-good (Ok x) e h = h
-good (Err x) e h = absurd (cc e)
+pub from_ok : {T E P : Type 0} (r : Result T E) → true ≡ is_ok r → OnOk r P → P
+from_ok (Ok x) e h = h
+from_ok (Err x) e h = absurd (cc e)
 
 -- the call was refused
-pub bad : {T E P : Type 0} (r : Result T E) → false ≡ is_ok r → OnErr r P → P
-bad (Ok x) e h = absurd (cc e)
-bad (Err x) e h = h
+pub from_err : {T E P : Type 0} (r : Result T E) → false ≡ is_ok r → OnErr r P → P
+from_err (Ok x) e h = absurd (cc e)
+from_err (Err x) e h = h
 
 -- the value of a good call
 pub value_of : {T E : Type 0} (P : T → Type 0) (Q : E → Type 0) (r : Result T E) (x : T)

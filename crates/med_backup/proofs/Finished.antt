@@ -20,7 +20,7 @@ use Rattle.med_backup.specs.Copies.{Copy, put_of, record_of, HasAll}
 use Rattle.med_backup.proofs.CopyLemmas.{key_of, AreOf}
 use Rattle.med_backup.proofs.Apart.{own_under, meta_under, own_or_meta, schema_or_manifest, later_apart, meta_apart}
 use Rattle.med_base.proofs.Lists.{all_append}
-use Rattle.med_backup.proofs.Stands.{NoneHas, path_of, stays, put_stays, last_put}
+use Rattle.med_backup.proofs.Stands.{NoneHas, path_of, stays_elsewhere, put_stays, last_put}
 
 abbrev pub records_of : (before f n : List ℕ) → List Copy → List FileRecord
 records_of before f n copies = map (record_of before f n) copies
@@ -176,9 +176,9 @@ module _ (before f n schema : List ℕ) (at end : ℕ) (c : Content)
   none_of_puts p [] all = tt
   none_of_puts p (k ∷ copies) all = (all.0, none_of_puts p copies all.1)
 
-  adds : (copies : List Copy) → AllByRecursion (Holds before f n (left copies)) copies
+  adds_copies : (copies : List Copy) → AllByRecursion (Holds before f n (left copies)) copies
       → AddsAt (paths_of before f n (records_of before f n copies)) c (left copies)
-  adds copies stand = record {
+  adds_copies copies stand = record {
     were_free = (
       free_at (meta_path before f n Schema) (meta_under before f n Schema),
       (
@@ -195,7 +195,7 @@ module _ (before f n schema : List ℕ) (at end : ℕ) (c : Content)
         own_there (left copies) copies stand,
       ),
     );
-    others = λ p none. stays p (backup_puts before f n schema at copies end) c (
+    others = λ p none. stays_elsewhere p (backup_puts before f n schema at copies end) c (
       none.0,
       all_append (λ (x : Effect). p ≡ path_of x → ⊥) (map (put_of before f n) copies)
           (last (texts copies)) (none_of_puts p copies none.1.1) (none.1.0, tt),
@@ -215,7 +215,7 @@ module _ (before f n schema : List ℕ) (at end : ℕ) (c : Content)
           stored = stored_by (left copies) copies stand;
         };
         text = manifest_stands copies;
-        adds = adds copies stand;
+        adds = adds_copies copies stand;
       }
 
   files_of : (s : Snapshot) (d : Content) (copies : List Copy)

@@ -24,10 +24,11 @@ pub nothing_yet : entries (empty {K = FileKey} {X = Unit {0}} {R = key_cmp}) ≡
 nothing_yet =
     nil_from_length (entries empty) (sym (len-entries empty) ∙ len-empty key_cmp (Unit {0}))
 
-alike : {A : Type 0} (r : Ordering) (a b c : A) → match_ordering r a b c ≡ by_order r a b c
-alike Less a b c = refl
-alike Equal a b c = refl
-alike Greater a b c = refl
+match_is_by_order : {A : Type 0} (r : Ordering) (a b c : A)
+    → match_ordering r a b c ≡ by_order r a b c
+match_is_by_order Less a b c = refl
+match_is_by_order Equal a b c = refl
+match_is_by_order Greater a b c = refl
 
 insert_entry-put : (es : List (FileKey × Unit {0})) (k : FileKey)
     → insert_entry key_cmp es k tt ≡ put key_cmp k tt es
@@ -35,7 +36,7 @@ insert_entry-put [] k = refl
 insert_entry-put (e ∷ es) k =
     ap (λ (l : List (FileKey × Unit {0})). match_ordering (key_cmp k e.0) ((k, tt) ∷ e ∷ es)
     ((e.0, tt) ∷ es) (e ∷ l)) (insert_entry-put es k)
-    ∙ alike (key_cmp k e.0) _ _ _
+    ∙ match_is_by_order (key_cmp k e.0) _ _ _
 
 added-push : (m : Keys) (ks : List FileKey) (k : FileKey)
     → added m (ks ++ k ∷ []) ≡ insert (added m ks) k tt
@@ -61,20 +62,20 @@ second_of : (a b : Bool) → T (a && b) → T b
 second_of true b p = p
 second_of false b p = absurd p
 
-less : (o : Ordering) → T (is_lt o) → o ≡ Less
-less Less p = refl
-less Equal p = absurd p
-less Greater p = absurd p
+less_by_test : (o : Ordering) → T (is_lt o) → o ≡ Less
+less_by_test Less p = refl
+less_by_test Equal p = absurd p
+less_by_test Greater p = absurd p
 
-below : {X : Type 0} (k : FileKey) (es : List (FileKey × X)) → T (below_all key_cmp k es)
+below_each : {X : Type 0} (k : FileKey) (es : List (FileKey × X)) → T (below_all key_cmp k es)
     → AllByRecursion (λ j. key_cmp k j ≡ Less) (map (λ e. e.0) es)
-below k [] h = tt
-below k (e ∷ es) h = (less _ (first_of _ _ h), below k es (second_of _ _ h))
+below_each k [] h = tt
+below_each k (e ∷ es) h = (less_by_test _ (first_of _ _ h), below_each k es (second_of _ _ h))
 
 rising_from : {X : Type 0} (es : List (FileKey × X)) → T (is_sorted key_cmp es)
     → AreRising (map (λ e. e.0) es)
 rising_from [] h = tt
-rising_from (e ∷ es) h = (below e.0 es (first_of _ _ h), rising_from es (second_of _ _ h))
+rising_from (e ∷ es) h = (below_each e.0 es (first_of _ _ h), rising_from es (second_of _ _ h))
 
 pub rising_keys : {X : Type 0} (m : FinMap key_cmp X) → AreRising (keys m)
 rising_keys m = rising_from (entries m) (entries_sorted m)

@@ -138,10 +138,10 @@ read_on sent piece (Some file) first next =
     read_more (length piece == piece_size) sent piece file refl (cc first) (cc next)
 
 -- nothing was read, and there is a file
-pub begins : (held : Option Snapshot) (key : FileKey) → IfSome held (HasKey key)
+pub nothing_read : (held : Option Snapshot) (key : FileKey) → IfSome held (HasKey key)
     → IsReadOf held key true []
-begins None key has = tt
-begins (Some s) key has = first_nothing (get s.files key) has
+nothing_read None key has = tt
+nothing_read (Some s) key has = first_nothing (get s.files key) has
 
 read_of : (held : Option Snapshot) (key : FileKey) (sent piece : List ℕ)
     → IsReadOf held key true sent

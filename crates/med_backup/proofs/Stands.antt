@@ -26,16 +26,16 @@ path_of (Removes path) = path
 abbrev pub NoneHas : List ℕ → List Effect → Type 0
 NoneHas p xs = AllByRecursion (λ (x : Effect). p ≡ path_of x → ⊥) xs
 
-pub stays : (p : List ℕ) (xs : List Effect) (c : Content) → NoneHas p xs
+pub stays_elsewhere : (p : List ℕ) (xs : List Effect) (c : Content) → NoneHas p xs
     → get (applied xs c) p ≡ get c p
-stays p [] c none = refl
-stays p (Stores path bytes second ∷ xs) c none =
-    stays p xs (made (Stores path bytes second) c) none.1
+stays_elsewhere p [] c none = refl
+stays_elsewhere p (Stores path bytes second ∷ xs) c none =
+    stays_elsewhere p xs (made (Stores path bytes second) c) none.1
     ∙ get-insert nat_list_cmp_total c path (record { bytes = bytes; second = second }) p
     ∙ ap (λ b. cond b (Some (record { bytes = bytes; second = second })) (get c p))
     (unequal_paths p path none.0)
-stays p (Removes path ∷ xs) c none =
-    stays p xs (made (Removes path) c) none.1
+stays_elsewhere p (Removes path ∷ xs) c none =
+    stays_elsewhere p xs (made (Removes path) c) none.1
     ∙ get-remove nat_list_cmp_total c path p
     ∙ ap (λ b. cond b None (get c p)) (unequal_paths p path none.0)
 
@@ -43,7 +43,7 @@ pub put_stays : (p bytes : List ℕ) (second : ℕ) (xs : List Effect) (c : Cont
     → get (applied (Stores p bytes second ∷ xs) c) p ≡ Some
     (record { bytes = bytes; second = second })
 put_stays p bytes second xs c none =
-    stays p xs (made (Stores p bytes second) c) none
+    stays_elsewhere p xs (made (Stores p bytes second) c) none
     ∙ get-insert nat_list_cmp_total c p (record { bytes = bytes; second = second }) p
     ∙ ap (λ b. cond b (Some (record { bytes = bytes; second = second })) (get c p))
     (path_equals_itself p)

@@ -10,9 +10,9 @@ use Rattle.med_base.specs.Decimal.{is_decimal}
 digits : IsNumeralModel (λ ds. list_all is_ascii_digit ds ≡ true) (digits_value 10)
 digits = numerals_by_value _ (search rules)
 
-pub unread : {E : Type 0} (places limit : ℕ) (text : List ℕ) (e : E) → limit < 4294967296
+pub not_decimal : {E : Type 0} (places limit : ℕ) (text : List ℕ) (e : E) → limit < 4294967296
     → ParsesUnsigned 32 10 text (Err e) → is_decimal places limit text ≡ false
-unread places limit text e fits h = false_from_ne_true (is_decimal places limit text) (λ is.
+not_decimal places limit text e fits h = false_from_ne_true (is_decimal places limit text) (λ is.
     let some = nat_lt 0 (length text) in
     let all = list_all is_ascii_digit text in
     let ends = and_parts (all && some && nat_le (length text) places)

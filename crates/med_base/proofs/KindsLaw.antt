@@ -14,7 +14,7 @@ use Rattle.med_base.proofs.EntryLemmas.{then_is, map_is, entry_is}
 use Rattle.med_base.proofs.MetaLemmas.{latest_is, latest_found}
 use Rattle.med_base.proofs.NameLemmas.{fqdn_no_slash, backup_no_slash}
 use Rattle.med_base.proofs.KindsMade.{built_is_told, entry_if_fqdn, entry_flat, latest_flat}
-use Rattle.med_base.proofs.KindsTold.{pair_is, Told, by_cond, by_kind, no_builder, folder_flat, outside, node_told}
+use Rattle.med_base.proofs.KindsTold.{pair_is, Told, by_cond, by_kind, no_builder, folder_flat, other_outside, node_told}
 use Rattle.med_base.proofs.Options.{none_by_test}
 
 some_if : {X : Type 0} (b : Bool) (o : Option X) (v : X) → cond b o None ≡ Some v → (b ≡ true)
@@ -29,7 +29,7 @@ index_is_plain = no_slash_by_test (codes "index") refl
 
 module _ (before path rest : List ℕ) (is : path ≡ before ++ (codes "index" ++ 47 ∷ rest)) where
   index_other : Told before path Other
-  index_other = outside before path (codes "index" ++ 47 ∷ rest) is (λ f more valid e.
+  index_other = other_outside before path (codes "index" ++ 47 ∷ rest) is (λ f more valid e.
       let same = same_parts (codes "index") f rest more index_is_plain (fqdn_no_slash f valid) e in
       let bad : IsFqdn (codes "index") = subst IsFqdn (sym same.0) valid in
       absurd (cc))
@@ -116,7 +116,8 @@ module _ (before path : List ℕ) where
   -- the first component is neither the index nor a node
   other_below : (part rest : List ℕ) → HasNoSlash part → path ≡ before ++ (part ++ 47 ∷ rest)
       → is_none (fqdn_fault part) ≡ false → Told before path Other
-  other_below part rest h is bad = outside before path (part ++ 47 ∷ rest) is (λ f more valid e.
+  other_below part rest h is bad = other_outside before path (part ++ 47 ∷ rest) is
+      (λ f more valid e.
       let same = same_parts part f rest more h (fqdn_no_slash f valid) e in
       true≢false (sym (ap is_none (subst IsFqdn (sym same.0) valid)) ∙ bad))
 
@@ -124,7 +125,8 @@ module _ (before path : List ℕ) where
   below_told text is = elim (cut_at_slash text) [
     | whole h ↦
         subst (Told before path) (sym (ap kind_below (parts_whole text h) ∙ below_alone text))
-        (outside before path text is (λ f more valid e. slash_within f more (subst HasNoSlash e h)))
+        (other_outside before path text is
+        (λ f more valid e. slash_within f more (subst HasNoSlash e h)))
     | around part rest h e ↦
         let at = is ∙ ap (λ t. before ++ t) e in
         subst (Told before path) (sym (ap kind_below (ap parts e ∙ parts_around part rest h)))

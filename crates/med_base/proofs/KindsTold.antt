@@ -116,10 +116,10 @@ pub folder_flat : (before f rest : List ℕ)
 folder_flat before f rest = simp append_assoc
 
 -- a path whose first component is no node's name lies in the folder of no node
-pub outside : (before path text : List ℕ) → path ≡ before ++ text
+pub other_outside : (before path text : List ℕ) → path ≡ before ++ text
     → ((f rest : List ℕ) → IsFqdn f → text ≡ f ++ 47 ∷ rest → ⊥)
     → kind_of before path ≡ Other → IsOfKind before path Other
-outside before path text is not told = record {
+other_outside before path text is not told = record {
   outside = λ f rest h under. not f rest h
       (same_rest before text (f ++ 47 ∷ rest) (sym is ∙ under ∙ folder_flat before f rest));
   unbuilt = no_builder before path Other refl told;

@@ -5,22 +5,23 @@ use Rattle.std.proofs.lemmas.List.{map-append, take-map, take_more}
 
 -- ---- a list around one of its items
 
-pub around : {V : Type 0} (xs : List V) (i : ℕ) (x : V) → i < length xs → x ≡ get_or xs i x
+pub cut_around : {V : Type 0} (xs : List V) (i : ℕ) (x : V) → i < length xs → x ≡ get_or xs i x
     → xs ≡ take i xs ++ x ∷ drop (suc i) xs
-around [] i x lt at = absurd (omega arith)
-around {V} (v ∷ xs) zero x lt at = ap (λ (w : V). w ∷ xs) (sym at)
-around {V} (v ∷ xs) (suc i) x lt at = ap (λ (ws : List V). v ∷ ws) (around xs i x (omega arith) at)
+cut_around [] i x lt at = absurd (omega arith)
+cut_around {V} (v ∷ xs) zero x lt at = ap (λ (w : V). w ∷ xs) (sym at)
+cut_around {V} (v ∷ xs) (suc i) x lt at =
+    ap (λ (ws : List V). v ∷ ws) (cut_around xs i x (omega arith) at)
 
 -- the same, by the place behind it
 pub split_at : {V : Type 0} (xs : List V) (i : ℕ) (x : V) → i < length xs → x ≡ get_or xs i x
     → xs ≡ take i xs ++ x ∷ drop (i + 1) xs
-split_at xs i x lt at = rw add-one (around xs i x lt at)
+split_at xs i x lt at = rw add-one (cut_around xs i x lt at)
 
 -- the same, seen through a function
 pub map_around : {V A : Type 0} (f : V → A) (xs : List V) (i : ℕ) (x : V) → i < length xs
     → x ≡ get_or xs i x → map f xs ≡ map f (take i xs) ++ f x ∷ map f (drop (suc i) xs)
 map_around f xs i x lt at =
-    ap (map f) (around xs i x lt at) ∙ map-append f (take i xs) (x ∷ drop (suc i) xs)
+    ap (map f) (cut_around xs i x lt at) ∙ map-append f (take i xs) (x ∷ drop (suc i) xs)
 
 -- what stands before an item, and the item
 pub take_next : {V : Type 0} (xs : List V) (i : ℕ) (x : V) → i < length xs → x ≡ get_or xs i x

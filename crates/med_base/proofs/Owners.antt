@@ -52,10 +52,10 @@ owner_back before path f (is_latest kind built) = ap owner_in
 
 -- ---- and what has an owner belongs to it
 
-under : (before path f text rest : List ℕ) → IsFqdn f
+belongs_below : (before path f text rest : List ℕ) → IsFqdn f
     → ◌≡◌ {A = Option (List ℕ)} (Some text) (Some path)
     → text ≡ before ++ (f ++ 47 ∷ rest) → BelongsTo before path f
-under before path f text rest valid built flat =
+belongs_below before path f text rest valid built flat =
     lies_under rest valid
     (sym (same_Some text path built) ∙ flat ∙ sym (folder_flat before f rest))
 
@@ -63,15 +63,17 @@ owner_there : (before path : List ℕ) (k : Kind) (g : List ℕ) → IsOfKind be
     → owner_in k ≡ Some g → BelongsTo before path g
 owner_there before path (Shared f key) g b e =
     subst (BelongsTo before path) (same_Some f g e)
-    (under before path f (shared_path before f key) (codes "data" ++ 47 ∷ nested key) b.valid.0
+    (belongs_below before path f (shared_path before f key) (codes "data" ++ 47 ∷ nested key)
+    b.valid.0
     b.built (shared_flat before f key))
 owner_there before path (Own f n key) g b e =
     subst (BelongsTo before path) (same_Some f g e)
-    (under before path f (own_path before f n key) (n ++ 47 ∷ (codes "data" ++ 47 ∷ nested key))
+    (belongs_below before path f (own_path before f n key)
+    (n ++ 47 ∷ (codes "data" ++ 47 ∷ nested key))
     b.valid.0 b.built (own_flat before f n key))
 owner_there before path (Meta f n kind) g b e =
     subst (BelongsTo before path) (same_Some f g e)
-    (under before path f (meta_path before f n kind)
+    (belongs_below before path f (meta_path before f n kind)
     (n ++ 47 ∷ (codes "meta" ++ 47 ∷ meta_file kind)) b.valid.0 b.built
     (meta_flat before f n kind))
 owner_there before path (Entry f n kind) g b e = subst (BelongsTo before path) (same_Some f g e)

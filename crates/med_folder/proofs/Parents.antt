@@ -2,7 +2,7 @@
 use Rattle.std.proofs.Common.{◌≡◌, ◌<◌, ◌+◌, ◌∙◌, inr, ℕ, suc, List, sym, arith, length, take, drop, get_or}
 use Rattle.std.specs.Prelude.{◌≢◌}
 use Rattle.std.proofs.lemmas.List.{get_or-drop, length-drop, get_or_default}
-use Rattle.med_base.proofs.Lists.{around}
+use Rattle.med_base.proofs.Lists.{cut_around}
 use Rattle.med_folder.specs.Place.{HasNoSlash, IsParent}
 
 no_slash_behind : (path : List ℕ) (at : ℕ) → at < length path
@@ -17,5 +17,5 @@ pub parent_before : (path : List ℕ) (at : ℕ) → at < length path → get_or
 parent_before path at inside slash last = inr (
   drop (suc at) path,
   no_slash_behind path at inside last,
-  around path at 47 inside (sym slash ∙ get_or_default path at 0 47 inside),
+  cut_around path at 47 inside (sym slash ∙ get_or_default path at 0 47 inside),
 )

@@ -81,29 +81,29 @@ err_is a b e = cc
 
 module _ {W : Type 1} {R : Type 0} (rose : Device → Type 0) (told : Result R Stop) where
   -- a device that is asked after a step is asked on the way
-  further : {T : Type 0} (answers : Result T Refusal → Type 0) (on : List Device) (leaves : W)
+  asked_further : {T : Type 0} (answers : Result T Refusal → Type 0) (on : List Device) (leaves : W)
       (rest : T → Plan W R) (x : T) → answers (Ok x) → (end : Result R Stop)
       → EndsAs rose (rest x) told end → EndsAs rose (step answers on leaves rest) told end
-  further answers on leaves rest x ok (Ok y) h = h
-  further answers on leaves rest x ok (Err (Refused f)) h = h
-  further answers on leaves rest x ok (Err (Failed d)) (asked, r) = (inr (x, ok, asked), r)
+  asked_further answers on leaves rest x ok (Ok y) h = h
+  asked_further answers on leaves rest x ok (Err (Refused f)) h = h
+  asked_further answers on leaves rest x ok (Err (Failed d)) (asked, r) = (inr (x, ok, asked), r)
 
   -- a stop at a step
-  here : {T : Type 0} (answers : Result T Refusal → Type 0) (on : List Device) (leaves : W)
+  stopped_here : {T : Type 0} (answers : Result T Refusal → Type 0) (on : List Device) (leaves : W)
       (rest : T → Plan W R) → Leads (step answers on leaves rest) told → (end : Result R Stop)
       → MatchResult end (λ _. ⊥) (StopsAt rose answers on)
       → EndsAs rose (step answers on leaves rest) told end
-  here answers on leaves rest leads (Ok y) h = absurd h
-  here answers on leaves rest leads (Err (Refused f)) h = sym (leads (Err f) h)
-  here answers on leaves rest leads (Err (Failed d)) (among, r) = (inl among, r)
+  stopped_here answers on leaves rest leads (Ok y) h = absurd h
+  stopped_here answers on leaves rest leads (Err (Refused f)) h = sym (leads (Err f) h)
+  stopped_here answers on leaves rest leads (Err (Failed d)) (among, r) = (inl among, r)
 
   -- for every plan: where it leads to an end, a call of it ends so
-  pub exact : (means : W → Type 0) (plan : Plan W R) → Leads plan told → (end : Result R Stop)
+  pub plan_exact : (means : W → Type 0) (plan : Plan W R) → Leads plan told → (end : Result R Stop)
       → Ends rose means plan end → EndsAs rose plan told end
-  exact means (last good x) leads (Ok y) (done, holds) = done ∙ sym leads
-  exact means (last good x) leads (Err s) (done, holds) = absurd (ok_no_err x s (sym done))
-  exact means (step answers on leaves rest) leads end (inl (stop, left)) =
-      here answers on leaves rest leads end stop
-  exact means (step answers on leaves rest) leads end (inr (x, ok, ends)) =
-      further answers on leaves rest x ok end
-      (exact means (rest x) (leads (Ok x) ok) end ends)
+  plan_exact means (last good x) leads (Ok y) (done, holds) = done ∙ sym leads
+  plan_exact means (last good x) leads (Err s) (done, holds) = absurd (ok_no_err x s (sym done))
+  plan_exact means (step answers on leaves rest) leads end (inl (stop, left)) =
+      stopped_here answers on leaves rest leads end stop
+  plan_exact means (step answers on leaves rest) leads end (inr (x, ok, ends)) =
+      asked_further answers on leaves rest x ok end
+      (plan_exact means (rest x) (leads (Ok x) ok) end ends)

@@ -7,8 +7,8 @@ use Rattle.med_outside.specs.Counts.{Tagged, SnapshotCounts, is_same, without_fi
 abbrev pub without_from : ℕ → Tagged → List Tagged → List Tagged
 without_from i of ts = take i ts ++ without_first of (drop i ts)
 
-itself : (of : Tagged) → is_same of of ≡ true
-itself of =
+same_as_itself : (of : Tagged) → is_same of of ≡ true
+same_as_itself of =
     rw (bytes_same of.root, bytes_same of.node, bytes_same of.tag) refl
 
 -- one that was opened and closed again
@@ -19,4 +19,4 @@ closed_again of counts =
       opened = (with_opened of counts).opened;
       still_open = cond b counts.still_open (of ∷ without_first of counts.still_open);
       last = of;
-    }) (itself of)
+    }) (same_as_itself of)

@@ -8,7 +8,7 @@ use Rattle.med_words.specs.WellFormed.{IsWellFormed}
 use Rattle.med_base.proofs.Bools.{same_bytes}
 use Rattle.med_base.proofs.Lists.{all_append}
 use Rattle.med_words.proofs.Rows.{IsGoodName}
-use Rattle.med_words.proofs.Names.{lacks}
+use Rattle.med_words.proofs.Names.{lacks_byte}
 use Rattle.med_words.proofs.Exact.{IsTable}
 
 well_formed_name : (n : Text) → IsGoodName n → IsWellFormed (45 ∷ 45 ∷ n)
@@ -21,7 +21,7 @@ well_formed_value [] v g long e = absurd g
 well_formed_value (z ∷ zs) v g long e = (
   refl,
   λ h. subst (λ (t : Text). 0 < length t)
-      (sym (after_first-at 61 (z ∷ zs) v (lacks 61 (z ∷ zs) g))) long,
+      (sym (after_first-at 61 (z ∷ zs) v (lacks_byte 61 (z ∷ zs) g))) long,
 )
 
 well_formed_use : (table : List Opt) → IsTable table → (u : Use) → Fits table u

@@ -5,21 +5,22 @@ use Rattle.std.proofs.lemmas.Bool.{or_parts}
 use Rattle.clap.specs.Lexer.{name_and_value, has_byte}
 use Rattle.clap.proofs.CutLemmas.{Lacks, before_first-Lacks, before_first-at, after_first-at, list_any-at}
 
-pub lacks : (c : ℕ) (xs : List ℕ) → has_byte c xs ≡ false → Lacks c xs
-lacks c [] e i lt = absurd (omega arith)
-lacks c (x ∷ xs) e zero lt = λ same. true≢false
+pub lacks_byte : (c : ℕ) (xs : List ℕ) → has_byte c xs ≡ false → Lacks c xs
+lacks_byte c [] e i lt = absurd (omega arith)
+lacks_byte c (x ∷ xs) e zero lt = λ same. true≢false
     (sym (eq-eqb x c same) ∙ (or_parts (x == c) (has_byte c xs) e).0)
-lacks c (x ∷ xs) e (suc i) lt = lacks c xs (or_parts (x == c) (has_byte c xs) e).1 i (omega arith)
+lacks_byte c (x ∷ xs) e (suc i) lt =
+    lacks_byte c xs (or_parts (x == c) (has_byte c xs) e).1 i (omega arith)
 
 pub alone_text : (n : List ℕ) → has_byte 61 n ≡ false → name_and_value n ≡ (n, None)
-alone_text n e = rw (before_first-Lacks 61 n (lacks 61 n e), e) refl
+alone_text n e = rw (before_first-Lacks 61 n (lacks_byte 61 n e), e) refl
 
 pub joined_text : (n v : List ℕ) → has_byte 61 n ≡ false
     → name_and_value (n ++ 61 ∷ v) ≡ (n, Some v)
 joined_text n v e =
     rw (
-      before_first-at 61 n v (lacks 61 n e),
-      after_first-at 61 n v (lacks 61 n e),
+      before_first-at 61 n v (lacks_byte 61 n e),
+      after_first-at 61 n v (lacks_byte 61 n e),
       list_any-at 61 n v,
     ) refl
 
@@ -30,10 +31,10 @@ one_more k x c xs h =
     let two : suc k + 1 ≡ suc (k + 1) = omega arith in
     rw (one, two) (ap (λ (ys : List ℕ). x ∷ ys) h)
 
-pub cut : (c : ℕ) (xs : List ℕ) → has_byte c xs ≡ true
+pub cut_at_byte : (c : ℕ) (xs : List ℕ) → has_byte c xs ≡ true
     → xs ≡ before_first (λ x. x == c) xs ++ c ∷ after_first (λ x. x == c) xs
-cut c [] e = absurd (true≢false (sym e))
-cut c (x ∷ xs) e = go (x == c) refl e (cut c xs)
+cut_at_byte c [] e = absurd (true≢false (sym e))
+cut_at_byte c (x ∷ xs) e = go (x == c) refl e (cut_at_byte c xs)
   where
     go : (b : Bool) → (x == c) ≡ b → (b || has_byte c xs) ≡ true
         → (has_byte c xs ≡ true → xs ≡ before_first (λ y. y == c) xs ++ c ∷ after_first

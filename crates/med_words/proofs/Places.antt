@@ -15,7 +15,7 @@ use Rattle.med_words.specs.Grammar.{Text, Opt, valued, flag, Use, alone, joined,
 use Rattle.med_base.proofs.Bools.{same_bytes}
 use Rattle.med_words.proofs.Rows.{Level, rules, rule_for, value_rule, flag_rule, by_long, rows, row_for, row_with, has_row_is, used_value, used_flag}
 use Rattle.med_words.proofs.Steps.{or_else_nil, long_turn, long_walk, turn_long, walk_long, here}
-use Rattle.med_words.proofs.Names.{alone_text, cut}
+use Rattle.med_words.proofs.Names.{alone_text, cut_at_byte}
 use Rattle.clap.specs.Walk.{answers_to, arg_by_index}
 use Rattle.clap.specs.Faults.{long_fault}
 use Rattle.med_words.proofs.Level as level
@@ -37,12 +37,12 @@ pub data Parts (rest : Text) : Type 0 where
   a_value : (n v : Text) (is : rest ≡ n ++ 61 ∷ v) (e : name_and_value rest ≡ (n, Some v)) (at : v
       ≡ after_first (λ x. x == 61) rest) (has : has_byte 61 rest ≡ true) → Parts rest
 
-pub parts : (rest : Text) → Parts rest
-parts rest = go (has_byte 61 rest) refl
+pub name_or_value : (rest : Text) → Parts rest
+name_or_value rest = go (has_byte 61 rest) refl
   where
     go : (b : Bool) → has_byte 61 rest ≡ b → Parts rest
     go true e = a_value (before_first (λ x. x == 61) rest) (after_first (λ x. x == 61) rest)
-        (cut 61 rest e)
+        (cut_at_byte 61 rest e)
         (ap (λ (b : Bool). (
           before_first (λ x. x == 61) rest,
           cond b (Some (after_first (λ x. x == 61) rest)) None,

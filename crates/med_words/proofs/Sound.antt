@@ -13,7 +13,7 @@ use Rattle.std.proofs.lemmas.Bool.{cases_eq}
 use Rattle.clap.specs.Walk.{answers_to, reacted}
 use Rattle.med_words.proofs.Level as level
 use Rattle.med_words.proofs.Places as places
-use Rattle.med_words.proofs.Places.{Parts, a_name, a_value, parts, opt_is}
+use Rattle.med_words.proofs.Places.{Parts, a_name, a_value, name_or_value, opt_is}
 
 module _ (name : Level) (table : List Opt) where
   abbrev rs : List Rule
@@ -189,7 +189,7 @@ module _ (name : Level) (table : List Opt) where
       (45 ∷ 45 ∷ z ∷ zs) ≡ [] → faults name rs
       (walked rs name.names (walk_from h) (45 ∷ 45 ∷ z ∷ zs)) rest ≡ []
       → Read h done ((45 ∷ 45 ∷ z ∷ zs) ∷ rest)
-  long_case fuel h done z zs rest rec len passes ends stands turn more = by (parts (z ∷ zs))
+  long_case fuel h done z zs rest rec len passes ends stands turn more = by (name_or_value (z ∷ zs))
     where
       by_name : name_and_value (z ∷ zs) ≡ (z ∷ zs, None) → (o : Option Opt)
           → opt_of table (z ∷ zs) ≡ o → Read h done ((45 ∷ 45 ∷ z ∷ zs) ∷ rest)

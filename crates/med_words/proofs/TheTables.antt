@@ -86,8 +86,8 @@ all_names = each_holds IsWellFormedName (λ (c : Row). is_word c.0) (λ c. well_
 pub no_hyphen : (rest : List ℕ) → find (answers_to (45 ∷ rest)) (names_in commands) ≡ None
 no_hyphen rest = refl
 
-pub simple : is_simple (line_app (codes "medusa") main_options commands) ≡ true
-simple = refl
+pub line_is_simple : is_simple (line_app (codes "medusa") main_options commands) ≡ true
+line_is_simple = refl
 
-pub free : is_simple_and_free (line_app (codes "medusa") main_options commands) ≡ true
-free = refl
+pub line_is_free : is_simple_and_free (line_app (codes "medusa") main_options commands) ≡ true
+line_is_free = refl

@@ -6,7 +6,7 @@ use Rattle.med_outside.specs.Ends.{Failed, Memory}
 use Rattle.med_outside.specs.World.{rose_of_node}
 use Rattle.med_backup.specs.Errors.{stop_of_fault}
 use Rattle.med_backup.specs.Plan.{Passed}
-use Rattle.med_backup.proofs.Denials.{good, bad, store_stop}
+use Rattle.med_backup.proofs.Denials.{from_ok, from_err, store_stop}
 use Rattle.med_backup.proofs.Copied.{all_have, files_keys, files_paths, files_names}
 use Rattle.med_backup.proofs.CopySteps.{files_stopped, text_stopped, manifest_stopped, all_made, all_put, copy_stop}
 use Rattle.med_backup.proofs.copy.copy_found.Goals as goal
@@ -18,7 +18,7 @@ place_all-requires-clause-keys g c = rw c.as_slice-keys.ensures.value
 
 pub returns-in_err-files-clause-ends : goal.returns-in_err-files-clause-ends
 returns-in_err-files-clause-ends g c =
-    let first = rw c.as_slice-schema.ensures.value at (good c.put_meta.result
+    let first = rw c.as_slice-schema.ensures.value at (from_ok c.put_meta.result
     c.in_ok-map_err.ensures.variant c.put_meta.ensures.ok) in
     let p = err_from_is_err_and c.from_residual-in_err-files.result
     c.from_residual-in_err-files.ensures.1 in
@@ -54,7 +54,7 @@ write-requires g c =
 
 pub returns-in_err-text-clause-ends : goal.returns-in_err-text-clause-ends
 returns-in_err-text-clause-ends g c =
-    let first = rw c.as_slice-schema.ensures.value at (good c.put_meta.result
+    let first = rw c.as_slice-schema.ensures.value at (from_ok c.put_meta.result
     c.in_ok-map_err.ensures.variant c.put_meta.ensures.ok) in
     let all = rw c.as_slice-keys.ensures.value at c.in_ok-files.ensures.ok in
     let p = err_from_is_err_and c.from_residual-in_err-text.result
@@ -74,10 +74,10 @@ returns-in_err-text-clause-ends g c =
 
 pub returns-clause-ok : goal.returns-clause-ok
 returns-clause-ok g c =
-    let first = rw c.as_slice-schema.ensures.value at (good c.put_meta.result
+    let first = rw c.as_slice-schema.ensures.value at (from_ok c.put_meta.result
     c.in_ok-map_err.ensures.variant c.put_meta.ensures.ok) in
     let all = rw c.as_slice-keys.ensures.value at c.in_ok-files.ensures.ok in
-    let last = rw c.as_slice-bytes.ensures.value at (good c.put_meta-2.result
+    let last = rw c.as_slice-bytes.ensures.value at (from_ok c.put_meta-2.result
     c.in_ok-map_err-2.ensures.variant c.put_meta-2.ensures.ok) in
     all_made c.args.layout.now c.args.node.now c.args.name.now (g.P.Snap.state c.args.snap.now).held
     c.args.found.now.keys.items c.args.found.now.schema.items
@@ -109,10 +109,10 @@ returns-clause-names g c =
 
 pub returns-clause-ends : goal.returns-clause-ends
 returns-clause-ends g c =
-    let first = rw c.as_slice-schema.ensures.value at (good c.put_meta.result
+    let first = rw c.as_slice-schema.ensures.value at (from_ok c.put_meta.result
     c.in_ok-map_err.ensures.variant c.put_meta.ensures.ok) in
     let all = rw c.as_slice-keys.ensures.value at c.in_ok-files.ensures.ok in
-    let last = rw c.as_slice-bytes.ensures.value at (good c.put_meta-2.result
+    let last = rw c.as_slice-bytes.ensures.value at (from_ok c.put_meta-2.result
     c.in_ok-map_err-2.ensures.variant c.put_meta-2.ensures.ok) in
     all_put c.args.layout.now c.args.node.now c.args.name.now (g.P.Snap.state c.args.snap.now).held
     c.args.found.now.keys.items c.args.found.now.schema.items
@@ -129,7 +129,7 @@ returns-clause-ends g c =
 
 pub returns-in_err-map_err-2-clause-ends : goal.returns-in_err-map_err-2-clause-ends
 returns-in_err-map_err-2-clause-ends g c =
-    let first = rw c.as_slice-schema.ensures.value at (good c.put_meta.result
+    let first = rw c.as_slice-schema.ensures.value at (from_ok c.put_meta.result
     c.in_ok-map_err.ensures.variant c.put_meta.ensures.ok) in
     let all = rw c.as_slice-keys.ensures.value at c.in_ok-files.ensures.ok in
     let p = err_from_is_err_and c.from_residual-in_err-map_err-2.result
@@ -156,4 +156,4 @@ returns-in_err-map_err-2-clause-ends g c =
     (omega (arith, c.put_meta.ensures.cause.later, c.place_all.ensures.store_later)))
     c.in_ok-text.ensures.text first all
     (rw c.as_slice-bytes.ensures.value
-    at (bad c.put_meta-2.result c.in_err-map_err-2.ensures.variant c.put_meta-2.ensures.err)))
+    at (from_err c.put_meta-2.result c.in_err-map_err-2.ensures.variant c.put_meta-2.ensures.err)))

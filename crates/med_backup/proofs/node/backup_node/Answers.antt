@@ -1,6 +1,6 @@
 use Rattle.std.proofs.Common.{◌≡◌, inr, Vec, Global, arith}
 use Rattle.std.proofs.lemmas.Result.{IfOk-weaker}
-use Rattle.med_backup.proofs.Denials.{good}
+use Rattle.med_backup.proofs.Denials.{from_ok}
 use Rattle.med_backup.proofs.NodeSteps.{later_rose, left_later}
 use Rattle.med_manifest.specs.declared.manifest.FileRecord.{FileRecord}
 use Rattle.med_outside.specs.Ends.{seen}
@@ -22,7 +22,7 @@ returns-clause-ok g c =
     (g.S.Storage.state c.open-opened.new.self) (g.S.Storage.stood c.args.store.now)
     (g.S.Storage.stood c.open-opened.new.self) =
     rw (c.as_str-base.ensures.value, c.as_str-bucket.ensures.value) at
-    (good c.open-opened.result c.in_ok-map_err.ensures.variant c.open-opened.ensures.ok) in
+    (from_ok c.open-opened.result c.in_ok-map_err.ensures.variant c.open-opened.ensures.ok) in
     let first = opened.moves in
     let held = snap_at (g.N.Nodes.state c.args.nodes.now).snaps (node_config_of c.args.config.now)
     c.args.name.now in
@@ -52,7 +52,7 @@ returns-clause-ends g c =
     (g.S.Storage.state c.open-opened.new.self) (g.S.Storage.stood c.args.store.now)
     (g.S.Storage.stood c.open-opened.new.self) =
     rw (c.as_str-base.ensures.value, c.as_str-bucket.ensures.value) at
-    (good c.open-opened.result c.in_ok-map_err.ensures.variant c.open-opened.ensures.ok) in
+    (from_ok c.open-opened.result c.in_ok-map_err.ensures.variant c.open-opened.ensures.ok) in
     let first = opened.moves in
     let content = same_content (opened_at node_config (g.S.Storage.state c.args.store.now))
     (g.S.Storage.state c.open-opened.new.self) (g.S.Storage.stood c.args.store.now)

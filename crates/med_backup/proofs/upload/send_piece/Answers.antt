@@ -1,6 +1,6 @@
 use Rattle.std.proofs.Common.{◌==◌, ap, length}
 use Rattle.med_outside.specs.Pieces.{piece_size}
-use Rattle.med_backup.proofs.Denials.{good}
+use Rattle.med_backup.proofs.Denials.{from_ok}
 use Rattle.med_backup.proofs.upload.send_piece.Goals as goal
 
 pub returns-clause-ok : goal.returns-clause-ok
@@ -10,5 +10,5 @@ returns-clause-ok g c = record {
   range = rw c.size.ensures at c.in-Ok.ensures.range;
   sent_is = rw c.bytes-bytes.ensures.value at c.add.ensures;
   full_is = ap (λ bytes. length bytes == piece_size) c.bytes-bytes.ensures.value;
-  looks = good c.append.result c.in_ok-map_err.ensures.variant c.append.ensures.ok;
+  looks = from_ok c.append.result c.in_ok-map_err.ensures.variant c.append.ensures.ok;
 }

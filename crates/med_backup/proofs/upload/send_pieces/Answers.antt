@@ -1,10 +1,10 @@
 use Rattle.std.proofs.Common.{◌∙◌, length, length-append, refl, ap, arith}
-use Rattle.med_backup.proofs.Sending.{still_some, piece_on, nothing_sent, begins, reads_on}
+use Rattle.med_backup.proofs.Sending.{still_some, piece_on, nothing_sent, nothing_read, reads_on}
 use Rattle.med_backup.proofs.upload.send_pieces.Goals as goal
 
 pub loop-more-init : goal.loop-more-init
 loop-more-init g c = rw c.new-sent.ensures (record {
-  read = begins (g.P.Snap.state c.args.snap.now).held c.args.key.now c.requires.key;
+  read = nothing_read (g.P.Snap.state c.args.snap.now).held c.args.key.now c.requires.key;
   range = omega arith;
   looks = nothing_sent (g.S.Storage.state c.args.store.now) (g.S.Storage.stood c.args.store.now);
   same = record { held = refl; of = refl };

@@ -1,7 +1,7 @@
 use Rattle.std.proofs.Common.{Err, inl, inr, refl, ap, ◌∙◌, map, string_bytes}
 use Rattle.med_outside.specs.Ends.{BadWords, Refused, Failed, Memory, Ends}
 use Rattle.med_outside.specs.World.{world, rose_of}
-use Rattle.med_outside.proofs.EndsLemmas.{exact}
+use Rattle.med_outside.proofs.EndsLemmas.{plan_exact}
 use Rattle.med_outside.proofs.Passing.{moves_at_rest}
 use Rattle.med_words.specs.Views.{asked_of}
 use Rattle.med_commands.specs.Headline.{End, says}
@@ -28,7 +28,8 @@ returns-in-Ok g c =
       answer = record {
         end = answer.end;
         ends = ends;
-        exact = λ told leads. exact (rose_of a b) told says (words_plan words a b) leads answer.end
+        exact = λ told leads.
+            plan_exact (rose_of a b) told says (words_plan words a b) leads answer.end
             ends;
         status = answer.status;
         tells = answer.tells;
@@ -58,7 +59,8 @@ returns-in-Err-Usage g c =
       answer = record {
         end = end;
         ends = ends;
-        exact = λ told leads. exact (rose_of a a) told says (words_plan words a a) leads end ends;
+        exact = λ told leads.
+            plan_exact (rose_of a a) told says (words_plan words a a) leads end ends;
         status = c.code.ensures ∙ ap code c.tell.ensures.status;
         tells = rw (← c.in-Err-Usage.usage-is) c.tell.ensures.text;
         later = later_itself a;
@@ -79,7 +81,8 @@ returns-in-Err-Memory g c =
       answer = record {
         end = end;
         ends = ends;
-        exact = λ told leads. exact (rose_of a a) told says (words_plan words a a) leads end ends;
+        exact = λ told leads.
+            plan_exact (rose_of a a) told says (words_plan words a a) leads end ends;
         status = c.code-in-Err-Memory.ensures ∙ ap code c.tell-in-Err-Memory.ensures.status;
         tells = c.tell-in-Err-Memory.ensures.text;
         later = later_itself a;

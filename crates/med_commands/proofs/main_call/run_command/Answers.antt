@@ -1,6 +1,6 @@
 use Rattle.std.proofs.Common.{Ok, Err, refl, ap, ◌∙◌, arith}
 use Rattle.med_outside.specs.World.{world, rose_of}
-use Rattle.med_outside.proofs.EndsLemmas.{exact}
+use Rattle.med_outside.proofs.EndsLemmas.{plan_exact}
 use Rattle.med_words.specs.Views.{asked_of}
 use Rattle.med_commands.specs.Fault.{stop_of}
 use Rattle.med_commands.specs.Headline.{says}
@@ -20,7 +20,7 @@ returns-in-Ok g c =
       answer = record {
         end = Ok tt;
         ends = c.in-Ok.ensures.ends;
-        exact = λ told leads. exact (rose_of a b) told says
+        exact = λ told leads. plan_exact (rose_of a b) told says
             (plan_of (asked_of c.args.request.now) a b) leads (Ok tt) c.in-Ok.ensures.ends;
         status = c.code.ensures;
         tells = refl;
@@ -41,7 +41,7 @@ returns-in-Err g c =
       answer = record {
         end = Err (stop_of c.in-Err.fault);
         ends = c.in-Err.ensures.ends;
-        exact = λ told leads. exact (rose_of a b) told says
+        exact = λ told leads. plan_exact (rose_of a b) told says
             (plan_of (asked_of c.args.request.now) a b) leads (Err (stop_of c.in-Err.fault))
             c.in-Err.ensures.ends;
         status = c.code-in-Err.ensures ∙ ap code c.tell.ensures.status;

@@ -15,7 +15,7 @@ use Rattle.med_words.proofs.After.{end_rows}
 use Rattle.med_words.proofs.WholeLine.{line_sound, line_all}
 use Rattle.med_words.proofs.Exact.{each_table}
 use Rattle.med_words.proofs.RowsHeld.{has_rows}
-use Rattle.med_words.proofs.TheTables.{main_table, all_tables, no_hyphen, simple, free}
+use Rattle.med_words.proofs.TheTables.{main_table, all_tables, no_hyphen, line_is_simple, line_is_free}
 use Rattle.med_words.proofs.line.matched.Goals as goal
 use Rattle.med_words.proofs.line.matched.Goals.{then-eq, else-eq}
 
@@ -26,10 +26,10 @@ returns-in-Ok-try_get_matches_from-clause-ok c =
     let ens = c.in-Ok-try_get_matches_from.ensures in
     let none : fault_of (line_app (codes "medusa") main_options commands) words ≡ [] =
     ap (λ (a : App). fault_of a words) (sym app_is)
-    ∙ ens.kinds (ap is_simple_and_free app_is ∙ free) in
+    ∙ ens.kinds (ap is_simple_and_free app_is ∙ line_is_free) in
     let r = line_sound (codes "medusa") main_options commands no_hyphen main_table
     (each_table commands all_tables) words c.requires none in
-    let found = ens.matches (ap is_simple app_is ∙ simple) in
+    let found = ens.matches (ap is_simple app_is ∙ line_is_simple) in
     record {
       main = r.main;
       word = r.command;
@@ -57,7 +57,7 @@ returns-after-eq-clause-line c line main own word s =
     ∙ line_all (codes "medusa") main_options commands no_hyphen main_table
     (each_table commands all_tables) words main word own s in
     let memory = by_memory _ c.in-Err.error none
-    (c.in-Err.ensures.kinds (ap is_simple_and_free app_is ∙ free)) in
+    (c.in-Err.ensures.kinds (ap is_simple_and_free app_is ∙ line_is_free)) in
     elim c.if-eq.branch [
       | then-eq w ↦ cc (w.result-is, line)
       | else-eq w ↦
