@@ -1,17 +1,19 @@
 -- How the work on a node ends, out of its parts.
 use Rattle.std.proofs.Common.{◌≡◌, ◌≤◌, ◌+◌, ◌-◌, ◌^◌, min, ℕ, List, [], Option, sym, ◌∙◌, subst, arith, Result, Ok, Err, OnOk}
+use Rattle.med_base.specs.declared.key.FileKey.{FileKey}
 use Rattle.med_base.specs.Content.{Content}
 use Rattle.med_manifest.specs.declared.manifest.FileRecord.{FileRecord}
 use Rattle.med_outside.specs.Counts.{opened_once}
-use Rattle.med_outside.specs.Ends.{Device, Files, Nodes, Storage, Output, Memory}
+use Rattle.med_outside.specs.Ends.{Device, Files, Nodes, Storage, Output, Memory, Stop, Ends}
 use Rattle.med_outside.specs.Snapshot.{Snapshot}
 use Rattle.med_outside.specs.State.{State, Changes, ChangesWithin, History}
 use Rattle.med_outside.specs.World.{NodesState, rose_of_node}
+use Rattle.med_outside.proofs.EndsLemmas.{carried, goes_on}
 use Rattle.med_outside.proofs.Passing.{after_all-nothing}
 use Rattle.med_backup.specs.BackedUp.{IsFound, IsBackedUpFrom}
 use Rattle.med_backup.specs.Copies.{ChangeLists, IsMadeBy, HasAll}
 use Rattle.med_backup.specs.NodeConfig.{NodeConfig, opened_at}
-use Rattle.med_backup.specs.Plan.{Left, Leaves, tagged_at}
+use Rattle.med_backup.specs.Plan.{Left, Leaves, tagged_at, look_plan, copy_plan, snapshot_plan}
 use Rattle.med_backup.proofs.Made.{made_later}
 
 -- what holds holds after a good answer
@@ -78,3 +80,23 @@ made_after before f n held s0 s1 s2 p0 p1 p2 files first m = record {
   made = made_later s0 s1 s2 p0 p1 p2 first (HasAll before f n held m.order m.schema files) m.made;
   manifest_is = m.manifest_is;
 }
+
+-- the look at what is to be copied, and copying it after that
+pub after_look : (before f n : List ℕ) (held : Option Snapshot) (told : Option Content)
+    (rb rm rn sb sm sn : ℕ) → rb ≤ rm → sb ≤ sm → (s0 s1 s2 : State) (p0 p1 p2 : History)
+    → ChangesWithin [] s0 s1 p0 p1 → (order : List FileKey) (schema : List ℕ)
+    (r : Result (List FileRecord) Stop)
+    → Ends (rose_of_node rb rm sb sm) (IsMadeBy s0 s1 p0 p1) (look_plan before f n held told)
+    (Ok (order, schema))
+    → Ends (rose_of_node rm rn sm sn) (IsMadeBy s1 s2 p1 p2)
+    (copy_plan before f n held order schema) r
+    → Ends (rose_of_node rb rn sb sn) (IsMadeBy s0 s2 p0 p2) (snapshot_plan before f n held told) r
+after_look before f n held told rb rm rn sb sm sn snap store s0 s1 s2 p0 p1 p2 first order schema r
+    looked copied =
+    let rose = rose_of_node rb rn sb sn in
+    goes_on rose (IsMadeBy s0 s2 p0 p2) (λ found. copy_plan before f n held found.0 found.1)
+    (rose_of_node rb rm sb sm) (IsMadeBy s0 s1 p0 p1) (order, schema) r
+    (look_plan before f n held told) looked
+    (carried (rose_of_node rm rn sm sn) rose (later_rose rb rm rn sb sm sn snap store)
+    (IsMadeBy s1 s2 p1 p2) (IsMadeBy s0 s2 p0 p2) (made_later s0 s1 s2 p0 p1 p2 first)
+    (copy_plan before f n held order schema) r copied)

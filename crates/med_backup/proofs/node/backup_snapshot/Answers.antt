@@ -1,12 +1,12 @@
 use Rattle.std.proofs.Common.{Ok, Err}
 use Rattle.std.proofs.lemmas.Result.{err_from_is_err_and}
 use Rattle.med_outside.specs.World.{rose_of_node}
-use Rattle.med_outside.proofs.EndsLemmas.{carried, goes_on, stops_all}
+use Rattle.med_outside.proofs.EndsLemmas.{stops_all}
 use Rattle.med_backup.specs.Copies.{IsMadeBy, HasAll}
 use Rattle.med_backup.specs.Errors.{stop_of, stop_of_fault}
 use Rattle.med_backup.specs.Plan.{look_plan, copy_plan}
 use Rattle.med_backup.proofs.Made.{made_later}
-use Rattle.med_backup.proofs.NodeSteps.{later_rose, same_content}
+use Rattle.med_backup.proofs.NodeSteps.{same_content, after_look}
 use Rattle.med_backup.proofs.node.backup_snapshot.Goals as goal
 
 pub returns-in_err-found-clause-ends : goal.returns-in_err-found-clause-ends
@@ -50,87 +50,33 @@ returns-clause-ok g c = record {
 
 pub returns-clause-ends : goal.returns-clause-ends
 returns-clause-ends g c =
-    let low = rose_of_node (g.P.Snap.state c.args.snap.now).faults (g.P.Snap.state
-    c.look.new.snap).faults
-    (g.S.Storage.state c.args.store.now).faults (g.S.Storage.state c.look.new.store).faults in
-    let mid = rose_of_node (g.P.Snap.state c.look.new.snap).faults (g.P.Snap.state
-    c.copy_found.new.snap).faults
-    (g.S.Storage.state c.look.new.store).faults (g.S.Storage.state c.copy_found.new.store).faults in
-    let rose = rose_of_node (g.P.Snap.state c.args.snap.now).faults
-    (g.P.Snap.state c.copy_found.new.snap).faults
-    (g.S.Storage.state c.args.store.now).faults (g.S.Storage.state c.copy_found.new.store).faults in
-    let means = IsMadeBy (g.S.Storage.state c.args.store.now)
-    (g.S.Storage.state c.copy_found.new.store)
-    (g.S.Storage.stood c.args.store.now) (g.S.Storage.stood c.copy_found.new.store) in
-    goes_on rose means
-    (λ found. copy_plan c.args.layout.now c.args.node.now c.args.name.now
-    (g.P.Snap.state c.args.snap.now).held found.0 found.1) low
-    (IsMadeBy (g.S.Storage.state c.args.store.now) (g.S.Storage.state c.look.new.store)
-    (g.S.Storage.stood c.args.store.now) (g.S.Storage.stood c.look.new.store))
-    (c.in_ok-found.found.keys.items, c.in_ok-found.found.schema.items) (Ok
-    c.in_ok-files.files.items)
-    (look_plan c.args.layout.now c.args.node.now c.args.name.now (g.P.Snap.state
-    c.args.snap.now).held
-    (g.S.Storage.state c.args.store.now).content) c.in_ok-found.ensures.ends
-    (carried mid rose
-    (later_rose (g.P.Snap.state c.args.snap.now).faults (g.P.Snap.state c.look.new.snap).faults
-    (g.P.Snap.state c.copy_found.new.snap).faults
-    (g.S.Storage.state c.args.store.now).faults (g.S.Storage.state c.look.new.store).faults
-    (g.S.Storage.state c.copy_found.new.store).faults c.look.ensures.snap_later
-    c.look.ensures.store_later)
-    (IsMadeBy (g.S.Storage.state c.look.new.store) (g.S.Storage.state c.copy_found.new.store)
-    (g.S.Storage.stood c.look.new.store) (g.S.Storage.stood c.copy_found.new.store))
-    means
-    (made_later (g.S.Storage.state c.args.store.now) (g.S.Storage.state c.look.new.store)
-    (g.S.Storage.state c.copy_found.new.store) (g.S.Storage.stood c.args.store.now)
-    (g.S.Storage.stood c.look.new.store) (g.S.Storage.stood c.copy_found.new.store)
-    c.look.ensures.looks.moves)
-    (copy_plan c.args.layout.now c.args.node.now c.args.name.now (g.P.Snap.state
-    c.args.snap.now).held
-    c.in_ok-found.found.keys.items c.in_ok-found.found.schema.items) (Ok c.in_ok-files.files.items)
-    (rw c.look.ensures.same.held at c.in_ok-files.ensures.ends))
+    after_look c.args.layout.now c.args.node.now c.args.name.now
+    (g.P.Snap.state c.args.snap.now).held (g.S.Storage.state c.args.store.now).content
+    (g.P.Snap.state c.args.snap.now).faults (g.P.Snap.state c.look.new.snap).faults
+    (g.P.Snap.state c.copy_found.new.snap).faults (g.S.Storage.state c.args.store.now).faults
+    (g.S.Storage.state c.look.new.store).faults (g.S.Storage.state c.copy_found.new.store).faults
+    c.look.ensures.snap_later c.look.ensures.store_later (g.S.Storage.state c.args.store.now)
+    (g.S.Storage.state c.look.new.store) (g.S.Storage.state c.copy_found.new.store)
+    (g.S.Storage.stood c.args.store.now) (g.S.Storage.stood c.look.new.store)
+    (g.S.Storage.stood c.copy_found.new.store) c.look.ensures.looks.moves
+    c.in_ok-found.found.keys.items c.in_ok-found.found.schema.items
+    (Ok c.in_ok-files.files.items) c.in_ok-found.ensures.ends
+    (rw c.look.ensures.same.held at c.in_ok-files.ensures.ends)
 
 pub returns-in_err-files-clause-ends : goal.returns-in_err-files-clause-ends
 returns-in_err-files-clause-ends g c =
     let p = err_from_is_err_and c.from_residual-in_err-files.result
     c.from_residual-in_err-files.ensures.1 in
-    let low = rose_of_node (g.P.Snap.state c.args.snap.now).faults (g.P.Snap.state
-    c.look.new.snap).faults
-    (g.S.Storage.state c.args.store.now).faults (g.S.Storage.state c.look.new.store).faults in
-    let mid = rose_of_node (g.P.Snap.state c.look.new.snap).faults (g.P.Snap.state
-    c.copy_found.new.snap).faults
-    (g.S.Storage.state c.look.new.store).faults (g.S.Storage.state c.copy_found.new.store).faults in
-    let rose = rose_of_node (g.P.Snap.state c.args.snap.now).faults
-    (g.P.Snap.state c.copy_found.new.snap).faults
-    (g.S.Storage.state c.args.store.now).faults (g.S.Storage.state c.copy_found.new.store).faults in
-    let means = IsMadeBy (g.S.Storage.state c.args.store.now)
-    (g.S.Storage.state c.copy_found.new.store)
-    (g.S.Storage.stood c.args.store.now) (g.S.Storage.stood c.copy_found.new.store) in
-    rw (p.1, p.2) (goes_on rose means
-    (λ found. copy_plan c.args.layout.now c.args.node.now c.args.name.now
-    (g.P.Snap.state c.args.snap.now).held found.0 found.1) low
-    (IsMadeBy (g.S.Storage.state c.args.store.now) (g.S.Storage.state c.look.new.store)
-    (g.S.Storage.stood c.args.store.now) (g.S.Storage.stood c.look.new.store))
-    (c.in_ok-found.found.keys.items, c.in_ok-found.found.schema.items) (Err (stop_of_fault
-    c.in_err-files.field-0.0))
-    (look_plan c.args.layout.now c.args.node.now c.args.name.now (g.P.Snap.state
-    c.args.snap.now).held
-    (g.S.Storage.state c.args.store.now).content) c.in_ok-found.ensures.ends
-    (carried mid rose
-    (later_rose (g.P.Snap.state c.args.snap.now).faults (g.P.Snap.state c.look.new.snap).faults
-    (g.P.Snap.state c.copy_found.new.snap).faults
-    (g.S.Storage.state c.args.store.now).faults (g.S.Storage.state c.look.new.store).faults
-    (g.S.Storage.state c.copy_found.new.store).faults c.look.ensures.snap_later
-    c.look.ensures.store_later)
-    (IsMadeBy (g.S.Storage.state c.look.new.store) (g.S.Storage.state c.copy_found.new.store)
-    (g.S.Storage.stood c.look.new.store) (g.S.Storage.stood c.copy_found.new.store))
-    means
-    (made_later (g.S.Storage.state c.args.store.now) (g.S.Storage.state c.look.new.store)
-    (g.S.Storage.state c.copy_found.new.store) (g.S.Storage.stood c.args.store.now)
-    (g.S.Storage.stood c.look.new.store) (g.S.Storage.stood c.copy_found.new.store)
-    c.look.ensures.looks.moves)
-    (copy_plan c.args.layout.now c.args.node.now c.args.name.now (g.P.Snap.state
-    c.args.snap.now).held
-    c.in_ok-found.found.keys.items c.in_ok-found.found.schema.items)
-    (Err (stop_of_fault c.in_err-files.field-0.0))
-    (rw c.look.ensures.same.held at c.in_err-files.ensures.ends)))
+    rw (p.1, p.2) (
+    after_look c.args.layout.now c.args.node.now c.args.name.now
+    (g.P.Snap.state c.args.snap.now).held (g.S.Storage.state c.args.store.now).content
+    (g.P.Snap.state c.args.snap.now).faults (g.P.Snap.state c.look.new.snap).faults
+    (g.P.Snap.state c.copy_found.new.snap).faults (g.S.Storage.state c.args.store.now).faults
+    (g.S.Storage.state c.look.new.store).faults (g.S.Storage.state c.copy_found.new.store).faults
+    c.look.ensures.snap_later c.look.ensures.store_later (g.S.Storage.state c.args.store.now)
+    (g.S.Storage.state c.look.new.store) (g.S.Storage.state c.copy_found.new.store)
+    (g.S.Storage.stood c.args.store.now) (g.S.Storage.stood c.look.new.store)
+    (g.S.Storage.stood c.copy_found.new.store) c.look.ensures.looks.moves
+    c.in_ok-found.found.keys.items c.in_ok-found.found.schema.items
+    (Err (stop_of_fault c.in_err-files.field-0.0)) c.in_ok-found.ensures.ends
+    (rw c.look.ensures.same.held at c.in_err-files.ensures.ends))
