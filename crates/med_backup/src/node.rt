@@ -32,7 +32,8 @@ fn backup_snapshot<S: Storage, P: Snap>(
     requires { IsAtRest (S.state store.old) }
     ensures ok { IfOk result
         (λ files. IsBackedUpFrom layout.now node.now name.now (P.state snap.old).held
-        (S.state store.old) (S.state store.new) (S.stood store.old) (S.stood store.new) files.items) }
+        (S.state store.old) (S.state store.new) (S.stood store.old) (S.stood store.new)
+        files.items) }
     ensures ends { Ends (rose_of_node (P.state snap.old).faults (P.state snap.new).faults
         (S.state store.old).faults (S.state store.new).faults)
         (IsMadeBy (S.state store.old) (S.state store.new) (S.stood store.old)

@@ -55,8 +55,8 @@ abbrev pub status_of : End → Status
 status_of (Ok x) = status.Done
 status_of (Err stop) = status_of_stop stop
 
--- what is told on the standard error: nothing after an end that is well, and else one line, of which
--- a part is missing only where the count of that stream rose
+-- what is told on the standard error: nothing after an end that is well, and else one line, of
+-- which a part is missing only where the count of that stream rose
 abbrev pub Tells : End → (err err_now : SinkState) → Type 0
 Tells (Ok x) err err_now = err_now ≡ err
 Tells (Err stop) err err_now =

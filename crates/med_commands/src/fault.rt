@@ -76,8 +76,8 @@ impl Fault {
 }
 
 fn say_usage<E: Sink>(err: &mut E, usage: &Usage) -> Result<(), SinkFailed>
-    ensures text { Prints (complaint (usage_text usage.now)) (E.state err.old).taken (E.state err.new).taken
-        result }
+    ensures text { Prints (complaint (usage_text usage.now))
+        (E.state err.old).taken (E.state err.new).taken result }
     ensures later { (E.state err.old).faults ≤ (E.state err.new).faults }
     ensures failed { OnErr result (RoseOrFull (E.state err.old).faults (E.state err.new).faults) }
 {
@@ -122,8 +122,8 @@ fn say_no_snapshot<E: Sink>(err: &mut E, name: &str) -> Result<(), SinkFailed>
 }
 
 fn say_bad_file<E: Sink>(err: &mut E, at: usize) -> Result<(), SinkFailed>
-    ensures text { Prints (complaint (bad_file_text at)) (E.state err.old).taken (E.state err.new).taken
-        result }
+    ensures text { Prints (complaint (bad_file_text at))
+        (E.state err.old).taken (E.state err.new).taken result }
     ensures later { (E.state err.old).faults ≤ (E.state err.new).faults }
     ensures failed { OnErr result (RoseOrFull (E.state err.old).faults (E.state err.new).faults) }
 {
@@ -140,8 +140,8 @@ fn say_bad_file<E: Sink>(err: &mut E, at: usize) -> Result<(), SinkFailed>
 }
 
 fn say_fault<E: Sink>(err: &mut E, fault: &Fault) -> Result<(), SinkFailed>
-    ensures text { Prints (complaint (fault_text fault.now)) (E.state err.old).taken (E.state err.new).taken
-        result }
+    ensures text { Prints (complaint (fault_text fault.now))
+        (E.state err.old).taken (E.state err.new).taken result }
     ensures later { (E.state err.old).faults ≤ (E.state err.new).faults }
     ensures failed { OnErr result (RoseOrFull (E.state err.old).faults (E.state err.new).faults) }
 {

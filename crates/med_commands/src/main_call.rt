@@ -83,8 +83,8 @@ pub fn run_command<F: Files, S: Storage, N: Nodes, O: Sink, E: Sink>(
 /// Runs one command. The words don't contain the program's name.
 ///
 /// The words are read first, and words that ask for nothing are refused before anything else is
-/// done. Then the request is answered as `run_command` says, under its condition. Each snapshot that
-/// was opened is closed whatever the answer is.
+/// done. Then the request is answered as `run_command` says, under its condition. Each snapshot
+/// that was opened is closed whatever the answer is.
 pub fn medusa_main<F: Files, S: Storage, N: Nodes, O: Sink, E: Sink>(
     alloc: Global,
     words: &[String],

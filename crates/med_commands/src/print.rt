@@ -25,8 +25,8 @@ pub(crate) fn write_whole<O: Sink>(out: &mut O, bytes: &[u8]) -> Result<(), Sink
 
 /// Writes pieces one after another.
 pub(crate) fn write_pieces<O: Sink>(out: &mut O, pieces: &[&[u8]]) -> Result<(), SinkFailed>
-    ensures text { Prints (concat (map (λ x. x.now) pieces.now)) (O.state out.old).taken (O.state out.new).taken
-        result }
+    ensures text { Prints (concat (map (λ x. x.now) pieces.now))
+        (O.state out.old).taken (O.state out.new).taken result }
     ensures later { (O.state out.old).faults ≤ (O.state out.new).faults }
     ensures failed { OnErr result (RoseOrFull (O.state out.old).faults (O.state out.new).faults) }
 {
@@ -41,7 +41,8 @@ pub(crate) fn write_pieces<O: Sink>(out: &mut O, pieces: &[&[u8]]) -> Result<(),
 
 /// `medusa: `, the text and a line feed.
 pub(crate) fn say<E: Sink>(err: &mut E, text: &[u8]) -> Result<(), SinkFailed>
-    ensures text { Prints (complaint text.now) (E.state err.old).taken (E.state err.new).taken result }
+    ensures text { Prints (complaint text.now)
+        (E.state err.old).taken (E.state err.new).taken result }
     ensures later { (E.state err.old).faults ≤ (E.state err.new).faults }
     ensures failed { OnErr result (RoseOrFull (E.state err.old).faults (E.state err.new).faults) }
 {
@@ -50,8 +51,8 @@ pub(crate) fn say<E: Sink>(err: &mut E, text: &[u8]) -> Result<(), SinkFailed>
 
 /// The same of a text in two parts.
 pub(crate) fn say_named<E: Sink>(err: &mut E, text: &[u8], name: &[u8]) -> Result<(), SinkFailed>
-    ensures text { Prints (complaint (text.now ++ name.now)) (E.state err.old).taken (E.state err.new).taken
-        result }
+    ensures text { Prints (complaint (text.now ++ name.now))
+        (E.state err.old).taken (E.state err.new).taken result }
     ensures later { (E.state err.old).faults ≤ (E.state err.new).faults }
     ensures failed { OnErr result (RoseOrFull (E.state err.old).faults (E.state err.new).faults) }
 {

@@ -13,8 +13,8 @@ use med_ini::{ConfigError, IniError, IniKind};
 use med_outside::{Sink, SinkFailed};
 
 fn say_line<E: Sink>(err: &mut E, line: u64, kind: IniKind) -> Result<(), SinkFailed>
-    ensures text { Prints (complaint (line_text line kind)) (E.state err.old).taken (E.state err.new).taken
-        result }
+    ensures text { Prints (complaint (line_text line kind))
+        (E.state err.old).taken (E.state err.new).taken result }
     ensures later { (E.state err.old).faults ≤ (E.state err.new).faults }
     ensures failed { OnErr result (RoseOrFull (E.state err.old).faults (E.state err.new).faults) }
 {

@@ -17,7 +17,8 @@ pub trait Sink {
     /// no memory.
     fn write(&mut self, bytes: &[u8]) -> Result<usize, SinkFailed>
         ensures bound { IfOk result (λ n. n ≤ length bytes.now) }
-        ensures ok { IfOk result (λ n. Takes n bytes.now (state self.old).taken (state self.new).taken) }
+        ensures ok { IfOk result
+            (λ n. Takes n bytes.now (state self.old).taken (state self.new).taken) }
         ensures err { OnErr result ((state self.new).taken ≡ (state self.old).taken) }
         ensures later { (state self.old).faults ≤ (state self.new).faults }
         ensures failed { OnErr result (RoseOrFull (state self.old).faults (state self.new).faults) }
