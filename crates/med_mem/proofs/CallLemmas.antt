@@ -23,7 +23,8 @@ memory_of (Ok x) h = absurd (let e = h.0 in cc)
 memory_of (Err e) h = ap Err h.1
 
 module _ {T : Type 0} (left : List MemFault) (old new : Told)
-    (calls : new.calls ≡ one_more old.calls) (fails : new.to_fail ≡ left) (faults : new.faults ≡ old.faults) where
+    (calls : new.calls ≡ one_more old.calls) (fails : new.to_fail ≡ left)
+    (faults : new.faults ≡ old.faults) where
   -- it wasn't set to fail, and answered
   pub counts_ok : (set : Option Bool) (x : T) → set ≡ None → Counts set left old new (Ok x)
   counts_ok set x none = record {

@@ -62,11 +62,12 @@ IsFound key n fs None = find key_cmp key (files_of fs) ≡ None
 IsFound key n fs (Some at) =
     (i : ℕ) × (at ≡ n + i) × (find key_cmp key (files_of fs) ≡ file_at fs i)
 
-found : (key : FileKey) (n : ℕ) (fs : List MemFile)
+first_place_found : (key : FileKey) (n : ℕ) (fs : List MemFile)
     → IsFound key n fs (find key_cmp key (places n fs))
-found key n [] = refl
-found key n (f ∷ fs) =
-    go (key_eq key (key_of_raw f.key)) (find key_cmp key (places (n + 1) fs)) (found key (n + 1) fs)
+first_place_found key n [] = refl
+first_place_found key n (f ∷ fs) =
+    go (key_eq key (key_of_raw f.key)) (find key_cmp key (places (n + 1) fs))
+    (first_place_found key (n + 1) fs)
   where
     -- the same at a list whose head has the key or not
     IsFoundIf : Bool → Option ℕ → Type 0
@@ -93,7 +94,8 @@ module _ (index : BTreeMap FileKey ℕ) (fs : List MemFile) (is : IsIndex index 
 
   pub found_none : (key : FileKey) → get key_cmp index key ≡ None
       → find key_cmp key (files_of fs) ≡ None
-  found_none key none = go (find key_cmp key (places 0 fs)) (sym (is key) ∙ none) (found key 0 fs)
+  found_none key none =
+      go (find key_cmp key (places 0 fs)) (sym (is key) ∙ none) (first_place_found key 0 fs)
     where
       go : (o : Option ℕ) → o ≡ None → IsFound key 0 fs o → find key_cmp key (files_of fs) ≡ None
       go None e f = f
@@ -102,7 +104,7 @@ module _ (index : BTreeMap FileKey ℕ) (fs : List MemFile) (is : IsIndex index 
   pub found_some : (key : FileKey) (at : ℕ) → get key_cmp index key ≡ Some at
       → find key_cmp key (files_of fs) ≡ file_at fs at
   found_some key at some =
-      go (find key_cmp key (places 0 fs)) (sym (is key) ∙ some) (found key 0 fs)
+      go (find key_cmp key (places 0 fs)) (sym (is key) ∙ some) (first_place_found key 0 fs)
     where
       go : (o : Option ℕ) → o ≡ Some at → IsFound key 0 fs o
           → find key_cmp key (files_of fs) ≡ file_at fs at

@@ -22,11 +22,11 @@ none_either_way false = refl
 abbrev new_one : {K : Type 0} → (among : Bool) → K → List K
 new_one among x = cond among [] (x ∷ [])
 
-last : {K : Type 0} (among before test : Bool) (x : K) → before ≡ test
+one_more_filtered : {K : Type 0} (among before test : Bool) (x : K) → before ≡ test
     → cond among [] (cond (not before) (x ∷ []) []) ≡ new_one (test || among) x
-last among before true x e = ap (λ b. cond among [] (cond (not b) (x ∷ []) [])) e
+one_more_filtered among before true x e = ap (λ b. cond among [] (cond (not b) (x ∷ []) [])) e
     ∙ none_either_way among
-last among before false x e = ap (λ b. cond among [] (cond (not b) (x ∷ []) [])) e
+one_more_filtered among before false x e = ap (λ b. cond among [] (cond (not b) (x ∷ []) [])) e
 
 module _ {K : Type 0} (E : K → K → Bool) (laws : IsEquivalence E) where
   filtered : (among : Bool) (x y : K)
@@ -42,7 +42,7 @@ module _ {K : Type 0} (E : K → K → Bool) (laws : IsEquivalence E) where
       ap (λ l. y ∷ without E y l) (distinct_more xs x)
       ∙ ap (λ l. y ∷ l) (filter-append (λ z. not (E y z)) (distinct E xs) (new_one among x))
       ∙ ap (λ l. y ∷ (without E y (distinct E xs) ++ l))
-      (filtered among x y ∙ last among (E y x) (E x y) x (laws.symm y x))
+      (filtered among x y ∙ one_more_filtered among (E y x) (E x y) x (laws.symm y x))
 
 -- the keys of one file more, unless one before it has its key
 pub keys_more : (files : List MemFile) (i : ℕ) (f : MemFile) (b : Bool)

@@ -102,9 +102,9 @@ module _ (m n : Told) (made_by : AreMadeBy m.calls m.notes) (notes : n.notes ≡
     past = past m.notes n.notes m.calls n.calls le still;
   }
 
-  reads : n.clock ≡ m.clock → n.room ≡ m.room → n.bucket ≡ m.bucket → n.upload ≡ m.upload
-      → Stays m n
-  reads clock room bucket upload = record {
+  stays_by_reading : n.clock ≡ m.clock → n.room ≡ m.room → n.bucket ≡ m.bucket
+      → n.upload ≡ m.upload → Stays m n
+  stays_by_reading clock room bucket upload = record {
     moves = record {
       passes = no_change clock;
       upload = upload;
@@ -185,7 +185,7 @@ module _ {upload : Option Upload} where
       → Stays (told_as notes clock calls faults room bucket upload)
       (told_as notes clock next later room bucket upload)
   only_reads notes clock calls next faults later room bucket made_by le =
-      reads (told_as notes clock calls faults room bucket upload)
+      stays_by_reading (told_as notes clock calls faults room bucket upload)
       (told_as notes clock next later room bucket upload) made_by refl le refl refl refl refl
 
   -- the same of a call that noted what was noted already
@@ -195,7 +195,7 @@ module _ {upload : Option Upload} where
       → Stays (told_as notes clock calls faults room bucket upload)
       (told_as again clock next later room bucket upload)
   only_reads_again notes again clock calls next faults later room bucket made_by same le =
-      reads (told_as notes clock calls faults room bucket upload)
+      stays_by_reading (told_as notes clock calls faults room bucket upload)
       (told_as again clock next later room bucket upload) made_by same le refl refl refl refl
 
   -- the same of a call that made one change

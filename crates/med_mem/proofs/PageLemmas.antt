@@ -40,7 +40,8 @@ from_place end (o ∷ os) (suc i) before from =
 not_behind : (end : PageEnd) (os : List MemObject) (i : ℕ) → IsThere os end.path i → (k : ℕ)
     (d : MemObject) → k < i + 1 → is_lt (by end.path (get_or os k d).path) ≡ false
 not_behind end os i there k d less = elim (cases_lt k i) [
-  | inl lower ↦ ap is_lt (turned_less (get_or os k d).path end.path (there.below k d (omega arith) lower))
+  | inl lower ↦
+      ap is_lt (turned_less (get_or os k d).path end.path (there.below k d (omega arith) lower))
   | inr upper ↦
       let same : k ≡ i = omega (arith, less, upper) in
       rw same
@@ -169,24 +170,24 @@ some_left size all = go (nat_le (length all) size) refl
 
 module _ (size : ℕ) (all : List Entry) (page : Page) (items : page.entries.items ≡ take size all)
     (end_is : page.end ≡ ended size all) where
-  len : length page.entries.items ≡ min size (length all)
-  len = ap length items ∙ length-take size all
+  page_length : length page.entries.items ≡ min size (length all)
+  page_length = ap length items ∙ length-take size all
 
-  left : left_of page.end ≡ length all - size
-  left = ap left_of end_is ∙ left_is size all
+  page_left : left_of page.end ≡ length all - size
+  page_left = ap left_of end_is ∙ left_is size all
 
   no_more : length page.entries.items ≤ size
-  no_more = omega (arith, len)
+  no_more = omega (arith, page_length)
 
-  sum : (end : Option PageEnd) → IfSome end (λ e. e.left ≡ length all)
+  page_sum : (end : Option PageEnd) → IfSome end (λ e. e.left ≡ length all)
       → IfSome end (λ e. length page.entries.items + left_of page.end ≡ e.left)
-  sum None right = tt
-  sum (Some e) right = omega (arith, len, left, right)
+  page_sum None right = tt
+  page_sum (Some e) right = omega (arith, page_length, page_left, right)
 
   goes_on : 0 < size → (end : Option PageEnd) → IfSome end (λ e. e.left ≡ length all)
       → IfSome end (λ e. 0 < e.left → 0 < length page.entries.items)
   goes_on sized None right = tt
-  goes_on sized (Some e) right = λ some. omega (arith, len, right, some, sized)
+  goes_on sized (Some e) right = λ some. omega (arith, page_length, right, some, sized)
 
   ends_with_some : IfSome page.end (λ end. 0 < end.left)
   ends_with_some = rw end_is (some_left size all)
@@ -197,7 +198,7 @@ counts_down text after c page is right =
     let all = behind text after c in
     record {
       size = no_more page_size all page is.entries is.end_is;
-      sum = sum page_size all page is.entries is.end_is after right;
+      sum = page_sum page_size all page is.entries is.end_is after right;
       goes_on = goes_on page_size all page is.entries is.end_is (omega arith) after right;
       some_left = ends_with_some page_size all page is.entries is.end_is;
     }

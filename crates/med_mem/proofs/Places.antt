@@ -77,9 +77,9 @@ comparisons_rise (o ∷ os) path h (suc i) (suc j) d le lt =
     comparisons_rise os path (and_parts _ _ h).1 i j d (omega arith) (omega arith)
 
 module _ (os : List MemObject) (path : List ℕ) (h : AreInOrder os) where
-  pub found : (r : Result ℕ ℕ) → IsSearchInRange r (length os)
+  pub place_found : (r : Result ℕ ℕ) → IsSearchInRange r (length os)
       → IsBinarySearchResult (compared path) os r → IfOk r (IsThere os path)
-  found (Ok i) within here = record {
+  place_found (Ok i) within here = record {
     within = within;
     here = here;
     below = λ k d a b.
@@ -93,12 +93,12 @@ module _ (os : List MemObject) (path : List ℕ) (h : AreInOrder os) where
         (sym (nat_list_cmp_total.congr at path behind (here d))
         ∙ rising os i k d h (omega arith) b);
   }
-  found (Err i) within parts = tt
+  place_found (Err i) within parts = tt
 
-  pub gap : (r : Result ℕ ℕ) → IsSearchInRange r (length os)
+  pub place_gap : (r : Result ℕ ℕ) → IsSearchInRange r (length os)
       → IsBinarySearchResult (compared path) os r → IfErr r (IsGap os path)
-  gap (Ok i) within here = tt
-  gap (Err i) within parts =
+  place_gap (Ok i) within here = tt
+  place_gap (Err i) within parts =
       let both = parts (comparisons_rise os path h) in
       record { within = within; below = both.0; above = both.1 }
 
@@ -147,12 +147,12 @@ replaced path v n is (o ∷ os) (suc i) d same there =
     (replaced path v n is os i d same (tail_there o os path i there)))
 
 -- where all paths are others, nothing is left out
-kept : (path : List ℕ) (os : List MemObject)
+none_left_out : (path : List ℕ) (os : List MemObject)
     → ((k : ℕ) (d : MemObject) → k < length os → is_other path (get_or os k d).path ≡ true)
     → pairs os ≡ without_path path (pairs os)
-kept path [] others = refl
-kept path (o ∷ os) others =
-    let rest = kept path os (λ k d lt. others (suc k) d (omega (arith, lt))) in
+none_left_out path [] others = refl
+none_left_out path (o ∷ os) others =
+    let rest = none_left_out path os (λ k d lt. others (suc k) d (omega (arith, lt))) in
     rw (others 0 o (omega arith)) (ap (λ t. (o.path, object_of o) ∷ t) rest)
 
 other_lower : (path : List ℕ) (o : MemObject) → compared path o ≡ Less
@@ -173,7 +173,7 @@ pub removed : (path : List ℕ) (os : List MemObject) (i : ℕ) → IsThere os p
 removed path [] i there = absurd (omega (arith, there.within))
 removed path (o ∷ os) zero there =
     rw (same_path path o (there.here o))
-    (kept path os (λ k d lt.
+    (none_left_out path os (λ k d lt.
     other_greater path (get_or os k d) (there.above (suc k) d (omega arith) (omega (arith, lt)))))
 removed path (o ∷ os) (suc i) there =
     let less = there.below 0 o (omega arith) (omega arith) in
@@ -192,7 +192,7 @@ pub absent : (path : List ℕ) (os : List MemObject) (i : ℕ) → IsGap os path
     → pairs os ≡ without_path path (pairs os)
 absent path [] i gap = refl
 absent path (o ∷ os) zero gap =
-    kept path (o ∷ os) (λ k d lt.
+    none_left_out path (o ∷ os) (λ k d lt.
     other_greater path (get_or (o ∷ os) k d) (gap.above k d (omega arith) lt))
 absent path (o ∷ os) (suc i) gap =
     let less = gap.below 0 o (omega arith) (omega arith) in
