@@ -100,8 +100,8 @@ pub(crate) fn give_up<R: Files>(rt: &R, upload: Unfinished<R::File>) {
     let _ = remove_there(rt, upload.place.as_str());
 }
 
-/// Writes bytes behind those of an upload. Where there is no upload, it refuses. After a refusal the
-/// file is given up.
+/// Writes bytes behind those of an upload. Where there is no upload, it refuses. After a refusal
+/// the file is given up.
 pub(crate) fn append_to<R: Files>(
     rt: &R,
     upload: Option<Unfinished<R::File>>,

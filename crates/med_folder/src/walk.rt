@@ -36,8 +36,8 @@ fn first_folders<R: Files>(
 }
 
 /// The plain files below the bucket's folder whose path from there begins with a text and comes
-/// behind the end of a page, in byte order of these paths. No link is followed, and what is neither a file nor a folder is passed
-/// over.
+/// behind the end of a page, in byte order of these paths. No link is followed, and what is neither
+/// a file nor a folder is passed over.
 pub(crate) fn files_under<R: Files + AllocGlobal + Clone + Drop>(
     rt: &R,
     alloc: Global,

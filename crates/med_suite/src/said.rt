@@ -24,7 +24,8 @@ pub(crate) const OBJECTS: [&str; 4] = [
     "n1/b1/data/ks/t-1/nb-1-big-Data.db 1000 abc\nn1/b1/meta/schema.cql 1000 -- s\n\n",
     "n1/b1/data/ks/t-1/nb-1-big-Data.db 1000 abc\nn1/b1/meta/manifest.json 1000 \
     [{\"columnfamily\":\"t-1\",\"keyspace\":\"ks\",\"objects\":[{\"MD5\":\
-    \"900150983cd24fb0d6963f7d28e17f72\",\"path\":\"n1/b1/data/ks/t-1/nb-1-big-Data.db\",\"size\":3}]}]\n\
+    \"900150983cd24fb0d6963f7d28e17f72\",\"path\":\"n1/b1/data/ks/t-1/nb-1-big-Data.db\",\
+    \"size\":3}]}]\n\
     n1/b1/meta/schema.cql 1000 -- s\n\n",
 ];
 
