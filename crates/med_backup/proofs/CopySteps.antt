@@ -6,7 +6,7 @@ use Rattle.med_base.specs.Layout.{meta_path}
 use Rattle.med_manifest.specs.declared.manifest.FileRecord.{FileRecord}
 use Rattle.med_manifest.specs.Written.{manifest_text}
 use Rattle.med_outside.specs.Ends.{Device, Nodes, Storage, on, Refusal, Stop, Answers, StopsAt, Ends}
-use Rattle.med_outside.specs.Effects.{Effect}
+use Rattle.med_base.specs.Effects.{Effect}
 use Rattle.med_outside.specs.Snapshot.{Snapshot}
 use Rattle.med_outside.specs.State.{State, History}
 use Rattle.med_outside.specs.World.{rose_of_node}

@@ -2,7 +2,7 @@
 ghost use Rattle.std.specs.Prelude.{◌≡◌, ◌≤◌, IfOk};
 ghost use Rattle.med_outside.specs.Ends.{Ends, seen};
 ghost use Rattle.med_outside.specs.Snapshot.{StaysOpen};
-ghost use Rattle.med_outside.specs.State.{IsAtRest};
+ghost use Rattle.med_outside.specs.State.{IsReady};
 ghost use Rattle.med_outside.specs.World.{rose_of_node};
 ghost use Rattle.med_manifest.specs.Manifest.{IsManifest};
 ghost use Rattle.med_manifest.specs.Written.{manifest_text};
@@ -28,7 +28,7 @@ pub(crate) fn copy_found<S: Storage, P: Snap>(
     name: &BackupName,
     found: &Found,
 ) -> Result<Vec<FileRecord>, CopyFault>
-    requires rest { IsAtRest (S.state store.old) }
+    requires ready { IsReady layout.now (S.state store.old) }
     requires found { IsFound layout.now node.now name.now (P.state snap.old).held
         (S.state store.old).content found.now.keys.items found.now.schema.items }
     ensures ok { IfOk result

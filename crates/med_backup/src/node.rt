@@ -3,7 +3,7 @@ ghost use Rattle.std.specs.Prelude.{◌≡◌, ◌≤◌, IfOk, OnOk};
 ghost use Rattle.med_outside.specs.Counts.{opened_once};
 ghost use Rattle.med_outside.specs.Ends.{Ends, seen};
 ghost use Rattle.med_outside.specs.Snapshot.{StaysOpen};
-ghost use Rattle.med_outside.specs.State.{IsAtRest};
+ghost use Rattle.med_outside.specs.State.{IsAtRest, IsReady};
 ghost use Rattle.med_outside.specs.World.{rose_of_node};
 ghost use Rattle.med_backup.specs.BackedUp.{IsBackedUpFrom};
 ghost use Rattle.med_backup.specs.Copies.{IsMadeBy};
@@ -29,7 +29,7 @@ fn backup_snapshot<S: Storage, P: Snap>(
     node: &Fqdn,
     name: &BackupName,
 ) -> Result<Vec<FileRecord>, BackupError>
-    requires { IsAtRest (S.state store.old) }
+    requires { IsReady layout.now (S.state store.old) }
     ensures ok { IfOk result
         (λ files. IsBackedUpFrom layout.now node.now name.now (P.state snap.old).held
         (S.state store.old) (S.state store.new) (S.stood store.old) (S.stood store.new)
@@ -58,7 +58,7 @@ fn backup_opened<S: Storage, N: Nodes>(
     config: &Config,
     name: &BackupName,
 ) -> Result<Vec<FileRecord>, BackupError>
-    requires { IsAtRest (S.state store.old) }
+    requires { IsReady config.now.layout (S.state store.old) }
     ensures ok { IfOk result
         (λ files. IsBackedUpFrom config.now.layout config.now.node name.now
         (snap_at (N.state nodes.old).snaps (node_config_of config.now) name.now) (S.state store.old)

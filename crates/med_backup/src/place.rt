@@ -4,7 +4,7 @@ ghost use Rattle.std.specs.List.{AllByRecursion};
 ghost use Rattle.med_base.specs.Layout.{meta_path};
 ghost use Rattle.med_outside.specs.Causes.{HasCause};
 ghost use Rattle.med_outside.specs.Snapshot.{HasKey, StaysOpen};
-ghost use Rattle.med_outside.specs.State.{IsAtRest};
+ghost use Rattle.med_outside.specs.State.{IsAtRest, IsReady};
 ghost use Rattle.med_outside.specs.World.{rose_of_node};
 ghost use Rattle.med_backup.specs.declared.place.CopyFault.TheVariants.{Memory};
 ghost use Rattle.med_backup.specs.Copies.{IsPut, OrNothing, IsMadeBy, ArePut, AreFirstPut};
@@ -72,7 +72,7 @@ pub(crate) fn put_meta<S: Storage>(
     kind: MetaKind,
     bytes: &[u8],
 ) -> Result<(), Denied>
-    requires { IsAtRest (S.state store.old) }
+    requires { IsReady layout.now (S.state store.old) }
     ensures ok { OnOk result
         (IsMadeBy (S.state store.old) (S.state store.new) (S.stood store.old)
         (S.stood store.new)

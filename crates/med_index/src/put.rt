@@ -1,6 +1,5 @@
 // Entries that are put into the index.
 ghost use Rattle.std.specs.Prelude.{◌≡◌, false, OnOk};
-ghost use Rattle.med_base.specs.Kinds.{HasSecond};
 ghost use Rattle.med_base.specs.Layout.{entry_path};
 ghost use Rattle.med_outside.specs.Makes.{MakesPut};
 ghost use Rattle.med_outside.specs.State.{IsReady};
@@ -24,7 +23,6 @@ pub(crate) fn put_entry<S: Storage>(
     trace: &mut Trace,
 ) -> Result<u64, ListError>
     requires ready { IsReady layout.now (S.state store.old) }
-    requires second { HasSecond kind }
     requires sure { trace.old.unsure ≡ false }
     ensures makes { MakesPut ListError.Store (entry_path layout.now node.now name.now kind)
         bytes.now result (S.state store.old) (S.state store.new) (S.stood store.old)
