@@ -1,5 +1,5 @@
 -- What a listing of folders shows.
-use Rattle.std.specs.Prelude.{ℕ, Bool, not, ◌&&◌, List, Option, IsTrue, IsSortedByKey}
+use Rattle.std.specs.Prelude.{ℕ, Bool, false, not, ◌&&◌, ◌||◌, List, Option, Some, None, IsTrue, IsSortedByKey}
 use Rattle.std.specs.List.{All}
 use Rattle.std.specs.Ordering.{nat_cmp}
 use Rattle.std.specs.Cmp.Lexicographic.{slice_cmp}
@@ -14,6 +14,17 @@ use Rattle.med_outside.specs.declared.storage.PageEnd.{PageEnd}
 unfoldable pub is_shown : (text : List ℕ) → Option PageEnd → (path : List ℕ) → Bool
 is_shown text after path =
     (is_under text path && not (is_unfinished path)) && is_behind after path
+
+-- a page ends in the folder, whose path has a slash at its end
+abbrev pub ends_in : Option PageEnd → (folder : List ℕ) → Bool
+ends_in None folder = false
+ends_in (Some end) folder = is_under folder end.path
+
+-- what is below the folder may be shown: the end of a page doesn't come behind all of it
+abbrev pub may_hold : (text : List ℕ) → Option PageEnd → (folder : List ℕ) → Bool
+may_hold text after folder =
+    (is_under text folder && not (is_unfinished folder))
+    && (is_behind after folder || ends_in after folder)
 
 -- each path is shown
 abbrev pub AreShown : List ℕ → Option PageEnd → List Entry → Type 0

@@ -1,9 +1,9 @@
 // Listings in pages.
-ghost use Rattle.std.specs.Prelude.{◌≡◌, ◌+◌, ◌<◌, IfOk, IfSome, OnOk, take};
-ghost use Rattle.med_outside.specs.Pages.{CountsDown, last_path, left_of, page_size, shown};
+ghost use Rattle.std.specs.Prelude.{◌≡◌, ◌+◌, ◌<◌, ◌≤◌, IfOk, IfSome, OnOk};
+ghost use Rattle.med_outside.specs.Pages.{CountsDown, last_path, left_of, shown};
 ghost use Rattle.med_folder.specs.Listing.{AreShown, AreInOrder};
 
-use crate::walk::files_under;
+use crate::walk::{Listed, PAGE, Pending, count_files, first_pending, next_entries, next_file};
 use med_base::ObjPath;
 use med_outside::{Entry, Page, PageEnd};
 use std::alloc::Global;
@@ -11,22 +11,37 @@ use std::fs::Files;
 use std::io;
 use std::io::ErrorKind;
 
-// How many entries a page has at most.
-const PAGE: usize = 1000;
-
-// Refuses where the entries of a page and those that are left aren't as many as were left before.
-fn check_left(entries: usize, left: u64, after: Option<&PageEnd>) -> io::Result<()>
-    ensures sum { OnOk result (IfSome (shown after.entry) (λ end. entries + left ≡ end.left)) }
+// How many entries are left behind those of a page. The first page counts them. A later one takes
+// them from the number that was left before, and refuses where the folder no longer agrees with it:
+// a page that isn't the last is full, and behind the last one nothing comes.
+fn left_behind<R: Files + AllocGlobal + Clone + Drop>(
+    rt: &R,
+    alloc: Global,
+    listed: &Listed<'_>,
+    pending: &mut Pending,
+    entries: usize,
+) -> io::Result<u64>
+    ensures sum { IfOk result
+        (λ left. IfSome (shown listed.now.after) (λ end. entries + left ≡ end.left)) }
     ensures goes_on { OnOk result
-        (IfSome (shown after.entry) (λ end. 0 < end.left → 0 < entries)) }
+        (IfSome (shown listed.now.after) (λ end. 0 < end.left → 0 < entries)) }
 {
-    if let Some(end) = after {
-        let is_stuck = entries == 0 && end.left > 0;
-        if (entries as u64).checked_add(left) != Some(end.left) || is_stuck {
-            return Err(io::Error::from(ErrorKind::StaleNetworkFileHandle));
-        }
+    let Some(end) = listed.after else {
+        return count_files(rt, alloc, listed, pending);
+    };
+    let Some(left) = end.left.checked_sub(entries as u64) else {
+        return Err(io::Error::from(ErrorKind::StaleNetworkFileHandle));
+    };
+    let agrees = if left > 0 {
+        entries == PAGE
+    } else {
+        next_file(rt, alloc, listed, pending)?.is_none()
+    };
+    if agrees {
+        Ok(left)
+    } else {
+        Err(io::Error::from(ErrorKind::StaleNetworkFileHandle))
     }
-    Ok(())
 }
 
 // The end of a page behind which entries are left.
@@ -47,24 +62,6 @@ fn end_of(alloc: Global, entries: &[Entry], left: u64) -> io::Result<Option<Page
     }
 }
 
-// The first entries of a listing, as a page behind another one.
-fn first_page(alloc: Global, listing: Vec<Entry>, after: Option<&PageEnd>) -> io::Result<Page>
-    requires { AreInOrder listing.items }
-    ensures counts { IfOk result (CountsDown (shown after.entry)) }
-    ensures entries { IfOk result
-        (λ page. page.entries.items ≡ take page_size listing.items) }
-    ensures order { IfOk result (λ page. AreInOrder page.entries.items) }
-    ensures path { IfOk result (λ page. IfSome page.end
-        (λ end. end.path ≡ last_path page.entries.items)) }
-{
-    let mut entries = listing;
-    let left = entries.len().saturating_sub(PAGE) as u64;
-    entries.truncate(PAGE);
-    check_left(entries.len(), left, after)?;
-    let end = end_of(alloc, entries.as_slice(), left)?;
-    Ok(Page { entries, end })
-}
-
 /// The first files below the bucket's folder that are listed under a text behind the end of a page.
 /// Where the folder no longer agrees with that end, it refuses.
 pub(crate) fn page_behind<R: Files + AllocGlobal + Clone + Drop>(
@@ -81,5 +78,14 @@ pub(crate) fn page_behind<R: Files + AllocGlobal + Clone + Drop>(
     ensures path { IfOk result (λ page. IfSome page.end
         (λ end. end.path ≡ last_path page.entries.items)) }
 {
-    first_page(alloc, files_under(rt, alloc, bucket, under, after)?, after)
+    let listed = Listed {
+        bucket,
+        under,
+        after,
+    };
+    let mut pending = first_pending(rt, alloc, &listed)?;
+    let entries = next_entries(rt, alloc, &listed, &mut pending)?;
+    let left = left_behind(rt, alloc, &listed, &mut pending, entries.len())?;
+    let end = end_of(alloc, entries.as_slice(), left)?;
+    Ok(Page { entries, end })
 }

@@ -1,10 +1,10 @@
-// The files under a text.
-ghost use Rattle.std.specs.Prelude.{◌≡◌, ◌||◌, ◌&&◌, not, [], IfOk, IsPermutation};
+// The files under a text, in byte order of their paths.
+ghost use Rattle.std.specs.Prelude.{◌≡◌, ◌≤◌, IsTrue, IfOk, IfSome, IsPermutation, length, string_bytes};
 ghost use Rattle.std.specs.Ordering.{nat_cmp};
 ghost use Rattle.std.specs.Cmp.Lexicographic.{slice_cmp};
 ghost use Rattle.med_base.specs.Content.{is_under};
-ghost use Rattle.med_outside.specs.Pages.{is_behind, shown};
-ghost use Rattle.med_folder.specs.Listing.{is_shown, AreShown, AreInOrder};
+ghost use Rattle.med_outside.specs.Pages.{is_behind, page_size, shown};
+ghost use Rattle.med_folder.specs.Listing.{ends_in, is_shown, may_hold, AreShown, AreInOrder};
 ghost use Rattle.med_folder.specs.Place.{is_unfinished};
 
 use crate::faults::is_absent;
@@ -15,61 +15,156 @@ use med_base::ObjPath;
 use med_outside::{Entry, PageEnd};
 use std::alloc::Global;
 use std::cmp::Ordering;
-use std::fs::{DirEntry, Files, Metadata};
+use std::collections::BTreeSet;
+use std::fs::{Files, Metadata};
 use std::{fs, io};
 
-// The folder at which a listing begins, with a slash at its end, where no link leads there. The
-// bucket's own is the empty text.
-fn first_folders<R: Files>(
-    rt: &R,
-    alloc: Global,
-    bucket: &str,
-    parent: &str,
-) -> io::Result<Vec<String>> {
-    let mut folders = Vec::new(alloc);
-    if parent.is_empty() {
-        folders.push(String::new(alloc))?;
-    } else if is_object_path(parent.as_bytes()) && is_plain_way(rt, alloc, bucket, parent)? {
-        folders.push(joined(alloc, parent, "")?)?;
-    }
-    Ok(folders)
+/// How many entries a page has at most.
+pub(crate) const PAGE: usize = 1000;
+
+/// Which files are listed: those below the bucket's folder whose path from there begins with a text
+/// and comes behind the end of a page.
+#[derive(Clone, Copy)]
+pub(crate) struct Listed<'a> {
+    pub(crate) bucket: &'a str,
+    pub(crate) under: &'a str,
+    pub(crate) after: Option<&'a PageEnd>,
 }
 
-/// The plain files below the bucket's folder whose path from there begins with a text and comes
-/// behind the end of a page, in byte order of these paths. No link is followed, and what is neither
-/// a file nor a folder is passed over.
-pub(crate) fn files_under<R: Files + AllocGlobal + Clone + Drop>(
+/// What is left of a walk: paths from the bucket's folder, each of a folder that is to be read, with
+/// a slash at its end, or of a name that is to be looked at. The bucket's own is the empty text.
+/// What a folder holds comes before all that comes behind the folder, so the least of these paths
+/// is the next one.
+pub(crate) type Pending = BTreeSet<String>;
+
+/// The beginning of a walk: the folder of the text, where no link leads there.
+pub(crate) fn first_pending<R: Files>(
     rt: &R,
     alloc: Global,
-    bucket: &str,
-    under: &str,
-    after: Option<&PageEnd>,
-) -> io::Result<Vec<Entry>>
-    ensures shown { IfOk result
-        (λ entries. AreShown under.now (shown after.entry) entries.items) }
-    ensures order { IfOk result (λ entries. AreInOrder entries.items) }
+    listed: &Listed<'_>,
+) -> io::Result<Pending> {
+    check_folder(rt, listed.bucket)?;
+    let parent = parent_of(listed.under);
+    let mut pending = BTreeSet::new(alloc);
+    if parent.is_empty() {
+        pending.insert(String::new(alloc))?;
+    } else if is_object_path(parent.as_bytes()) && is_plain_way(rt, alloc, listed.bucket, parent)? {
+        pending.insert(joined(alloc, parent, "")?)?;
+    }
+    Ok(pending)
+}
+
+/// The next file of a walk, or none where it is at its end. No link is followed, and what is neither
+/// a file nor a folder is passed over.
+pub(crate) fn next_file<R: Files + AllocGlobal + Clone + Drop>(
+    rt: &R,
+    alloc: Global,
+    listed: &Listed<'_>,
+    pending: &mut Pending,
+) -> io::Result<Option<(String, Metadata)>>
+    ensures { IfOk result (λ found. IfSome found
+        (λ file. IsTrue (is_shown listed.now.under.now (shown listed.now.after)
+        (string_bytes file.0)))) }
 {
-    check_folder(rt, bucket)?;
-    let mut found = Vec::new(alloc);
-    let mut folders = first_folders(rt, alloc, bucket, parent_of(under))?;
-    'folders: for _ in 0..u64::MAX {
-        let Some(folder) = folders.pop() else {
-            sort_by_path(&mut found);
-            return Ok(found);
+    'paths: for _ in 0..u64::MAX {
+        let Some(path) = pending.pop_first() else {
+            return Ok(None);
         };
-        let folder = folder.as_str();
-        look_into(
-            rt,
-            alloc,
-            bucket,
-            folder,
-            under,
-            after,
-            &mut folders,
-            &mut found,
-        )?;
+        if path.is_empty() || path.as_str().ends_with('/') {
+            enter(rt, alloc, listed, path.as_str(), pending)?;
+        } else if let Some(file) = look_at(rt, alloc, listed, path, pending)? {
+            return Ok(Some(file));
+        }
     }
     Err(io::Error::from(io::ErrorKind::FilesystemLoop))
+}
+
+// Adds the names in a folder that may be walked. A folder that went is passed over.
+fn enter<R: Files + AllocGlobal + Clone + Drop>(
+    rt: &R,
+    alloc: Global,
+    listed: &Listed<'_>,
+    folder: &str,
+    pending: &mut Pending,
+) -> io::Result<()> {
+    let place = joined(alloc, listed.bucket, folder)?;
+    let listing = match fs::read_dir(rt, place.as_str()) {
+        Ok(listing) => listing,
+        Err(error) if is_absent(&error) => return Ok(()),
+        Err(error) => return Err(error),
+    };
+    for entry in listing {
+        let entry = entry?;
+        let mut path = String::from_str(alloc, folder)?;
+        path.push_str(entry.file_name())?;
+        path.push('/')?;
+        if may_hold(path.as_str(), listed) {
+            path.pop();
+            pending.insert(path)?;
+        }
+    }
+    Ok(())
+}
+
+// Looks at a name: a file that is shown is answered, and a folder is to be read in its turn, which
+// comes behind names such as `b-1` where it is `b`. A name that went is passed over.
+fn look_at<R: Files>(
+    rt: &R,
+    alloc: Global,
+    listed: &Listed<'_>,
+    path: String,
+    pending: &mut Pending,
+) -> io::Result<Option<(String, Metadata)>>
+    ensures { IfOk result (λ found. IfSome found
+        (λ file. IsTrue (is_shown listed.now.under.now (shown listed.now.after)
+        (string_bytes file.0)))) }
+{
+    let place = joined(alloc, listed.bucket, path.as_str())?;
+    let metadata = match fs::symlink_metadata(rt, place.as_str()) {
+        Ok(metadata) => metadata,
+        Err(error) if is_absent(&error) => return Ok(None),
+        Err(error) => return Err(error),
+    };
+    if metadata.is_dir() {
+        pending.insert(joined(alloc, path.as_str(), "")?)?;
+        Ok(None)
+    } else if metadata.is_file() && is_shown(path.as_str(), listed.under, listed.after) {
+        Ok(Some((path, metadata)))
+    } else {
+        Ok(None)
+    }
+}
+
+/// The next files of a walk as entries, as many as a page has.
+pub(crate) fn next_entries<R: Files + AllocGlobal + Clone + Drop>(
+    rt: &R,
+    alloc: Global,
+    listed: &Listed<'_>,
+    pending: &mut Pending,
+) -> io::Result<Vec<Entry>>
+    ensures bound { IfOk result (λ entries. length entries.items ≤ page_size) }
+    ensures shown { IfOk result
+        (λ entries. AreShown listed.now.under.now (shown listed.now.after) entries.items) }
+    ensures order { IfOk result (λ entries. AreInOrder entries.items) }
+{
+    let mut entries = Vec::new(alloc);
+    'files: for count in 0..PAGE {
+        let Some((path, metadata)) = next_file(rt, alloc, listed, pending)? else {
+            break;
+        };
+        entries.push(entry_of(path, &metadata)?)?;
+    }
+    sort_by_path(&mut entries);
+    Ok(entries)
+}
+
+fn entry_of(path: String, metadata: &Metadata) -> io::Result<Entry>
+    ensures { IfOk result (λ entry. entry.path ≡ string_bytes path) }
+{
+    let size = metadata.len();
+    let second = modified_second(metadata)?;
+    let path = ObjPath::from_string(path);
+    Ok(Entry { path, size, second })
 }
 
 fn path_order(a: &Entry, b: &Entry) -> Ordering
@@ -78,6 +173,7 @@ fn path_order(a: &Entry, b: &Entry) -> Ordering
     a.path.as_str().cmp(b.path.as_str())
 }
 
+// A walk comes upon the files in this order already.
 fn sort_by_path(entries: &mut Vec<Entry>)
     ensures same { IsPermutation entries.old.items entries.new.items }
     ensures order { AreInOrder entries.new.items }
@@ -85,85 +181,19 @@ fn sort_by_path(entries: &mut Vec<Entry>)
     entries.sort_unstable_by(path_order);
 }
 
-// What the folder holds: its files that are under the text, and the folders that may hold such.
-fn look_into<R: Files + AllocGlobal + Clone + Drop>(
+/// How many files are left of a walk.
+pub(crate) fn count_files<R: Files + AllocGlobal + Clone + Drop>(
     rt: &R,
     alloc: Global,
-    bucket: &str,
-    folder: &str,
-    under: &str,
-    after: Option<&PageEnd>,
-    folders: &mut Vec<String>,
-    found: &mut Vec<Entry>,
-) -> io::Result<()>
-    requires { AreShown under.now (shown after) found.old.items }
-    ensures { AreShown under.now (shown after.entry) found.new.items }
-{
-    let path = joined(alloc, bucket, folder)?;
-    let listing = match fs::read_dir(rt, path.as_str()) {
-        Ok(listing) => listing,
-        Err(error) if is_absent(&error) => return Ok(()),
-        Err(error) => return Err(error),
-    };
-    'entries: for entry in listing {
-        take_entry(alloc, &entry?, folder, under, after, folders, found)?;
-    }
-    Ok(())
-}
-
-// An entry that went since its name was read is passed over. The folder's path ends in a slash, but
-// for that of the bucket's folder, which is empty.
-fn take_entry<R: Files + Clone + Drop>(
-    alloc: Global,
-    entry: &DirEntry<R, Global>,
-    folder: &str,
-    under: &str,
-    after: Option<&PageEnd>,
-    folders: &mut Vec<String>,
-    found: &mut Vec<Entry>,
-) -> io::Result<()>
-    requires { AreShown under.now (shown after) found.old.items }
-    ensures { AreShown under.now (shown after.entry) found.new.items }
-{
-    let mut path = String::from_str(alloc, folder)?;
-    path.push_str(entry.file_name())?;
-    let metadata = match entry.metadata() {
-        Ok(metadata) => metadata,
-        Err(error) if is_absent(&error) => return Ok(()),
-        Err(error) => return Err(error),
-    };
-    if metadata.is_dir() {
-        path.push('/')?;
-        if may_hold(path.as_str(), under) {
-            folders.push(path)?;
+    listed: &Listed<'_>,
+    pending: &mut Pending,
+) -> io::Result<u64> {
+    'files: for count in 0..u64::MAX {
+        if next_file(rt, alloc, listed, pending)?.is_none() {
+            return Ok(count);
         }
-        Ok(())
-    } else if metadata.is_file() {
-        take_file(path, &metadata, under, after, found)
-    } else {
-        Ok(())
     }
-}
-
-// Takes the file up, where it is shown under the text.
-fn take_file(
-    path: String,
-    metadata: &Metadata,
-    under: &str,
-    after: Option<&PageEnd>,
-    found: &mut Vec<Entry>,
-) -> io::Result<()>
-    requires { AreShown under.now (shown after) found.old.items }
-    ensures { AreShown under.now (shown after.entry) found.new.items }
-{
-    if !is_shown(path.as_str(), under, after) {
-        return Ok(());
-    }
-    let size = metadata.len();
-    let second = modified_second(metadata)?;
-    let path = ObjPath::from_string(path);
-    found.push(Entry { path, size, second })?;
-    Ok(())
+    Err(io::Error::from(io::ErrorKind::FilesystemLoop))
 }
 
 #[tactic(auto, unfolding(crate::specs::Listing::is_shown))]
@@ -189,11 +219,21 @@ fn is_under_text(path: &str, text: &str) -> bool
     path.as_bytes().starts_with(text.as_bytes())
 }
 
-// Whether a path that begins with the folder's may begin with the text.
-fn may_hold(folder: &str, under: &str) -> bool
-    ensures { result ≡ ((is_under folder.now under.now || is_under under.now folder.now)
-        && not (is_unfinished folder.now)) }
+// Whether what has the path of a folder, which has a slash at its end, or the path of the same name
+// without one, may be listed: the end of a page doesn't come behind all that the folder may hold.
+fn may_hold(folder: &str, listed: &Listed<'_>) -> bool
+    ensures { result ≡ may_hold listed.now.under.now (shown listed.now.after) folder.now }
 {
-    (is_under_text(under, folder) || is_under_text(folder, under))
-        && !is_unfinished(folder.as_bytes())
+    let is_within = is_under_text(folder, listed.under) && !is_unfinished(folder.as_bytes());
+    is_within && (is_behind(folder, listed.after) || ends_in(folder, listed.after))
+}
+
+// Whether a page ends in a folder.
+fn ends_in(folder: &str, after: Option<&PageEnd>) -> bool
+    ensures { result ≡ ends_in (shown after.entry) folder.now }
+{
+    match after {
+        Some(end) => is_under_text(end.path.as_str(), folder),
+        None => false,
+    }
 }

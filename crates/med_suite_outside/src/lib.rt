@@ -11,6 +11,8 @@ mod clocks;
 #[cfg(test)]
 mod folders;
 #[cfg(test)]
+mod listings;
+#[cfg(test)]
 mod memory;
 #[cfg(test)]
 mod names;
