@@ -1,3 +1,4 @@
 pub mod Dots
 pub mod PageLemmas
 pub mod Parents
+pub mod RoomLemmas

@@ -1,5 +1,5 @@
 // Pieces of a file, read one behind the other.
-ghost use Rattle.std.specs.Prelude.{◌≡◌, ◌≤◌, ◌<◌, ◌+◌, IfOk, IfSome, length, take};
+ghost use Rattle.std.specs.Prelude.{◌≡◌, ◌≤◌, ◌<◌, ◌+◌, ℕ, List, Option, IfOk, OnOk, length, take};
 ghost use Rattle.std.specs.Io.KnownBytes.{Consumes, IsAtEnd};
 ghost use Rattle.med_outside.specs.Pieces.{piece_size};
 
@@ -14,13 +14,17 @@ const SMALL: usize = 16_384;
 
 // Reads until the room is full or the file ends, and answers how many bytes were read.
 fn fill<F: Read>(file: &mut F, room: &mut [u8]) -> io::Result<usize>
-    ensures bound { IfOk result (λ count. count ≤ length room.old) }
+    ensures bound { IfOk result (λ count. count ≤ length room.new) }
     ensures len { length room.new ≡ length room.old }
+    ensures bytes { IfOk result (λ count. Consumes (F.remaining file.old) (F.remaining file.new)
+        (take count room.new)) }
+    ensures end { IfOk result
+        (λ count. count < length room.old → IsAtEnd (F.remaining file.new)) }
 {
     let mut filled = 0usize;
     'reads: for _ in 0..u64::MAX {
         if filled >= room.len() {
-            return Ok(room.len());
+            return Ok(filled);
         }
         let count = read_some(file, &mut room[filled..])?;
         if count == 0 {
@@ -31,19 +35,37 @@ fn fill<F: Read>(file: &mut F, room: &mut [u8]) -> io::Result<usize>
     Err(io::Error::from(ErrorKind::TimedOut))
 }
 
+// Reads on behind the bytes that were read, until there are so many or the file ends. Together they
+// are what the file has lost since those before were begun.
+fn read_up_to<F: Read>(file: &mut F, bytes: &mut Vec<u8>, size: usize) -> io::Result<()>
+    requires { length bytes.old.items ≤ size }
+    ensures bytes { OnOk result
+        ((first : Option (List ℕ)) → Consumes first (F.remaining file.old) bytes.old.items
+        → Consumes first (F.remaining file.new) bytes.new.items) }
+    ensures bound { OnOk result (length bytes.new.items ≤ size) }
+    ensures end { OnOk result
+        (length bytes.new.items < size → IsAtEnd (F.remaining file.new)) }
+{
+    let start = bytes.as_slice().len();
+    bytes.resize(size, 0u8)?;
+    let count = fill(file, &mut bytes.as_mut_slice()[start..])?;
+    bytes.truncate(start + count);
+    Ok(())
+}
+
 /// The bytes that a file has left, up to a piece. It isn't full only where the file ended. There is
 /// room for a piece only where the file has more than a small one.
-pub(crate) fn next_piece<F: Read>(alloc: Global, file: &mut F) -> io::Result<Piece> {
+pub(crate) fn next_piece<F: Read>(alloc: Global, file: &mut F) -> io::Result<Piece>
+    ensures bytes { IfOk result (Consumes (F.remaining file.old) (F.remaining file.new)) }
+    ensures end { IfOk result
+        (λ piece. length piece < piece_size → IsAtEnd (F.remaining file.new)) }
+{
     let mut bytes = Vec::new(alloc);
-    bytes.resize(SMALL, 0u8)?;
-    let first = fill(file, bytes.as_mut_slice())?;
-    if first < SMALL {
-        bytes.truncate(first);
+    read_up_to(file, &mut bytes, SMALL)?;
+    if bytes.len() < SMALL {
         return Ok(Piece::from_vec(bytes));
     }
-    bytes.resize(PIECE, 0u8)?;
-    let more = fill(file, &mut bytes.as_mut_slice()[SMALL..])?;
-    bytes.truncate(SMALL + more);
+    read_up_to(file, &mut bytes, PIECE)?;
     Ok(Piece::from_vec(bytes))
 }
 
