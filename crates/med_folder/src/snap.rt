@@ -56,6 +56,7 @@ pub struct FolderSnap<R: Files> {
     opened: OpenedFor,
     faults: u64,
     reading: Option<Reading<R::File>>,
+    seen: Option<String>,
 }
 
 /// A file of a snapshot that is read piece by piece: its path below the folder of data, and where
@@ -84,6 +85,7 @@ impl<R: Files> FolderSnap<R> {
             opened,
             faults: 0,
             reading: None,
+            seen: None,
         }
     }
 
@@ -118,19 +120,36 @@ fn path_of(alloc: Global, tag: &str, key: &FileKey) -> Result<String, AllocError
     joined(alloc, folder.as_str(), file)
 }
 
-// The plain file below a folder, which its path doesn't leave, opened at a place.
+// Whether a folder is the one that was seen last.
+fn is_seen(seen: Option<&String>, folder: &str) -> bool {
+    match seen {
+        Some(last) => last.as_str() == folder,
+        None => false,
+    }
+}
+
+// The plain file below a folder, which its path doesn't leave, opened at a place. The way to its own
+// folder is looked at where the last file that was opened lay in another one.
 fn open_below<R: Files>(
     rt: &R,
     alloc: Global,
     top: &str,
     path: &str,
     from: u64,
+    seen: &mut Option<String>,
 ) -> io::Result<R::File> {
-    if !is_plain_way(rt, alloc, top, parent_of(path))? {
+    let folder = parent_of(path);
+    let is_seen = is_seen(seen.as_ref(), folder);
+    if !is_seen && !is_plain_way(rt, alloc, top, folder)? {
         return Err(io::Error::from(ErrorKind::InvalidFilename));
     }
     let mut file = open_plain(rt, joined(alloc, top, path)?.as_str())?;
-    file.seek(SeekFrom::Start(from))?;
+    if from > 0 {
+        file.seek(SeekFrom::Start(from))?;
+    }
+    if !is_seen {
+        *seen = Some(String::from_str(alloc, folder)?);
+    }
     Ok(file)
 }
 
@@ -142,6 +161,7 @@ fn reading_at<R: Files>(
     reading: Option<Reading<R::File>>,
     key: &FileKey,
     from: u64,
+    seen: &mut Option<String>,
 ) -> io::Result<Reading<R::File>>
     ensures names { OnOk result
         (list_all is_name (parts (file_path (string_bytes folder.now.tag) key.now)) ≡ true) }
@@ -160,7 +180,7 @@ fn reading_at<R: Files>(
         }
     }
     let data = joined(alloc, folder.node.as_str(), "data")?;
-    let file = open_below(&folder.rt, alloc, data.as_str(), path.as_str(), from)?;
+    let file = open_below(&folder.rt, alloc, data.as_str(), path.as_str(), from, seen)?;
     Ok(Reading {
         file,
         path,
@@ -194,12 +214,13 @@ fn read_key<R: Files>(
     reading: Option<Reading<R::File>>,
     key: &FileKey,
     from: u64,
+    seen: &mut Option<String>,
 ) -> io::Result<(Piece, Option<Reading<R::File>>)>
     ensures names { OnOk result
         (list_all is_name (parts (file_path (string_bytes folder.now.tag) key.now)) ≡ true) }
     ensures range { IfOk result (λ read. EndsInRange from read.0) }
 {
-    read_on(alloc, reading_at(folder, alloc, reading, key, from)?)
+    read_on(alloc, reading_at(folder, alloc, reading, key, from, seen)?)
 }
 
 // The bytes of a file in the folder of the node.
@@ -223,9 +244,11 @@ impl<R: Files + AllocGlobal + Clone + Drop> Snap for FolderSnap<R> {
     }
 
     /// As the trait says. The file stays open behind a full piece: the next piece of the same key
-    /// from there on is read from it, and every other call closes it.
+    /// from there on is read from it, and every other call closes it. The way to a file's folder is
+    /// looked at where the file that was opened last lay in another one.
     fn read_piece(&mut self, alloc: Global, key: &FileKey, from: u64) -> Result<Piece, Denied> {
-        let outcome = read_key(&self.folder, alloc, self.reading.take(), key, from);
+        let reading = self.reading.take();
+        let outcome = read_key(&self.folder, alloc, reading, key, from, &mut self.seen);
         let (piece, reading) = counted(&mut self.faults, outcome)?;
         self.reading = reading;
         Ok(piece)

@@ -1,7 +1,7 @@
 // Snapshots of folders: the ring, and what goes while it is read.
 use crate::calls::{is_number, refusal};
 use crate::places::first_undone;
-use med_base::Fqdn;
+use med_base::{Component, FileKey, Fqdn};
 use med_folder::{FolderNodes, FolderSnap};
 use med_outside::{Nodes, Snap};
 use std::alloc::{Alloc, Allocator, Global};
@@ -156,6 +156,51 @@ n1/data/ks 1 => failed
 fn what_goes_while_a_snapshot_is_listed_is_a_fault(rt: HostRuntime) {
     assert_eq!(rt; first_undone(&rt, MADE), None);
     assert_eq!(rt; first_wrong(&rt, rt.alloc(), GONE), None);
+}
+
+// Whether the file of a name in the first table is read, whose bytes are its name.
+fn is_file<R: Files + AllocGlobal + Clone + Drop>(
+    alloc: Global,
+    snap: &mut FolderSnap<R>,
+    name: &str,
+) -> Option<bool> {
+    let key = FileKey {
+        keyspace: Component::read(alloc, "ks").ok()?,
+        table: Component::read(alloc, "t-1").ok()?,
+        file: Component::read(alloc, name).ok()?,
+    };
+    match snap.read_piece(alloc, &key, 0) {
+        Ok(piece) => Some(piece.bytes() == name.as_bytes()),
+        Err(_) => Some(false),
+    }
+}
+
+// Whether two files of one folder of the node `n8` are both read where what has a text in its path
+// goes after so many looks and openings.
+fn are_read<R: Files + AllocGlobal + Clone + Drop>(
+    rt: &R,
+    alloc: Global,
+    text: &str,
+    looks: u8,
+) -> Option<bool> {
+    let left = Cell::new(looks);
+    let rt = rt.clone().ok()?;
+    let left = &left;
+    let mut nodes = FolderNodes::new(alloc, Vanishing { rt, text, left });
+    let mut snap = open(alloc, &mut nodes, "n8")?;
+    Some(is_file(alloc, &mut snap, "f")? && is_file(alloc, &mut snap, "g")?)
+}
+
+const TWO: &str = "\
+file nodes/n8/data/ks/t-1/snapshots/medusa-b1/f=f
+file nodes/n8/data/ks/t-1/snapshots/medusa-b1/g=g";
+
+// Two folders on the way are looked at once, and each file is looked at and opened.
+#[test]
+fn the_way_to_files_of_one_folder_is_looked_at_once(rt: HostRuntime) {
+    assert_eq!(rt; first_undone(&rt, TWO), None);
+    assert_eq!(rt; are_read(&rt, rt.alloc(), "/snapshots", 6), Some(true));
+    assert_eq!(rt; are_read(&rt, rt.alloc(), "/snapshots", 5), Some(false));
 }
 
 // The ring of a node answers itself, or a refusal.
