@@ -5,7 +5,7 @@ use med_base::Layout;
 use med_folder::FolderStore;
 use med_outside::{Entry, Page, PageEnd, Storage};
 use std::alloc::Global;
-use std::fs::Files;
+use std::fs::{File, Files};
 use std::time::Clock;
 
 // Makes so many files: `FOLDER/1000`, `FOLDER/1001` and so on.
@@ -31,7 +31,7 @@ fn is_made<R: Files>(rt: &R, alloc: Global, row: &str) -> Option<bool> {
 
 // Opens the bucket of the name below `listings`, and makes what rows say. It answers the first row
 // that can't be done.
-fn first_unmade<'a, R: Files + Clock + AllocGlobal + Clone + Drop>(
+fn first_unmade<'a, R: Files<File = File> + Clock + AllocGlobal + Clone + Drop>(
     rt: &R,
     alloc: Global,
     store: &mut FolderStore<R>,
@@ -86,7 +86,7 @@ fn page_text(alloc: Global, page: &Page) -> Option<String> {
 }
 
 // The next page as a text, or a refusal, and its end.
-fn next_page<R: Files + Clock + AllocGlobal + Clone + Drop>(
+fn next_page<R: Files<File = File> + Clock + AllocGlobal + Clone + Drop>(
     alloc: Global,
     store: &mut FolderStore<R>,
     under: &str,
@@ -105,7 +105,7 @@ fn next_page<R: Files + Clock + AllocGlobal + Clone + Drop>(
 }
 
 // All pages under a text from one on, up to a refusal.
-fn all_pages<R: Files + Clock + AllocGlobal + Clone + Drop>(
+fn all_pages<R: Files<File = File> + Clock + AllocGlobal + Clone + Drop>(
     alloc: Global,
     store: &mut FolderStore<R>,
     under: &str,
@@ -124,7 +124,7 @@ fn all_pages<R: Files + Clock + AllocGlobal + Clone + Drop>(
 }
 
 // A row `UNDER => PAGES`.
-fn is_listed<R: Files + Clock + AllocGlobal + Clone + Drop>(
+fn is_listed<R: Files<File = File> + Clock + AllocGlobal + Clone + Drop>(
     alloc: Global,
     store: &mut FolderStore<R>,
     row: &str,
@@ -134,7 +134,7 @@ fn is_listed<R: Files + Clock + AllocGlobal + Clone + Drop>(
     Some(all_pages(alloc, store, under, first)?.as_str() == wanted)
 }
 
-fn first_unlisted<'a, R: Files + Clock + AllocGlobal + Clone + Drop>(
+fn first_unlisted<'a, R: Files<File = File> + Clock + AllocGlobal + Clone + Drop>(
     alloc: Global,
     store: &mut FolderStore<R>,
     table: &'a str,
@@ -188,7 +188,7 @@ fn a_listing_comes_in_pages(rt: HostRuntime) {
 
 // A row `UNDER: CHANGE => PAGES`: the pages behind the first one, where a file was made or removed
 // since.
-fn is_changed<R: Files + Clock + AllocGlobal + Clone + Drop>(
+fn is_changed<R: Files<File = File> + Clock + AllocGlobal + Clone + Drop>(
     rt: &R,
     alloc: Global,
     store: &mut FolderStore<R>,
@@ -204,7 +204,7 @@ fn is_changed<R: Files + Clock + AllocGlobal + Clone + Drop>(
     Some(all_pages(alloc, store, under, second)?.as_str() == wanted)
 }
 
-fn first_other<'a, R: Files + Clock + AllocGlobal + Clone + Drop>(
+fn first_other<'a, R: Files<File = File> + Clock + AllocGlobal + Clone + Drop>(
     rt: &R,
     alloc: Global,
     store: &mut FolderStore<R>,
