@@ -6,6 +6,8 @@ use Rattle.med_index.proofs.entries.put_mark.Goals as goal
 pub returns-in-Full-clause-makes : goal.returns-in-Full-clause-makes
 returns-in-Full-clause-makes g c =
     let state = g.S.Storage.state c.args.store.now in
-    let stood = g.S.Storage.stood c.args.store.now in
-    (0, nothing_yet _ _ state state stood stood c.args.trace.now c.args.trace.now _ (λ e. refl)
-    refl c.requires.sure (moves_at_rest state stood))
+    let stood = g.S.Storage.stood c.args.store.now in (
+      0,
+      nothing_yet _ _ state state stood stood c.args.trace.now c.args.trace.now _
+          (λ e. rw c.in-Full.is refl) refl c.requires.sure (moves_at_rest state stood),
+    )

@@ -10,14 +10,18 @@ returns-in-Err-clause-makes g c =
 pub returns-in-Err-put_entry-clause-makes : goal.returns-in-Err-put_entry-clause-makes
 returns-in-Err-put_entry-clause-makes g c =
     let (first, said, makes) = c.in-Ok.ensures.makes in
-    let (next, also, more) = c.in-Err-put_entry.ensures.makes in
-    (λ i. get_or (first ∷ next ∷ []) i 0, in_turn _ _ _ _ _ _ _ _ _ _ _ _ _ _ _ refl makes
-    (cut_short _ _ _ _ _ _ _ _ _ _ _ _ (λ fine. absurd (cc fine)) (λ fault. fault) more))
+    let (next, also, more) = c.in-Err-put_entry.ensures.makes in (
+      λ i. get_or (first ∷ next ∷ []) i 0,
+      in_turn _ _ _ _ _ _ _ _ _ _ _ _ _ _ _ refl makes
+          (cut_short _ _ _ _ _ _ _ _ _ _ _ _ (λ fine. absurd (cc fine)) (λ fault. fault) more),
+    )
 
 pub returns-clause-makes : goal.returns-clause-makes
 returns-clause-makes g c =
     let (first, said, makes) = c.in-Ok.ensures.makes in
     let (next, also, more) = c.in-Ok-put_entry.ensures.makes in
-    let (last, rest) = c.put_mark.ensures.makes in
-    (λ i. get_or (first ∷ next ∷ last ∷ []) i 0, in_turn _ _ _ _ _ _ _ _ _ _ _ _ _ _ _ refl makes
-    (in_turn _ _ _ _ _ _ _ _ _ _ _ _ _ _ _ refl more rest))
+    let (last, rest) = c.put_mark.ensures.makes in (
+      λ i. get_or (first ∷ next ∷ last ∷ []) i 0,
+      in_turn _ _ _ _ _ _ _ _ _ _ _ _ _ _ _ refl makes
+          (in_turn _ _ _ _ _ _ _ _ _ _ _ _ _ _ _ refl more rest),
+    )

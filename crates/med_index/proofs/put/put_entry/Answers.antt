@@ -9,11 +9,14 @@ use Rattle.med_index.proofs.put.put_entry.Goals as goal
 pub returns-in-Err-clause-makes : goal.returns-in-Err-clause-makes
 returns-in-Err-clause-makes g c =
     let state = g.S.Storage.state c.args.store.now in
-    let stood = g.S.Storage.stood c.args.store.now in
-    (0, tt, nothing_yet _ _ state state stood stood c.args.trace.now c.args.trace.now
-    (Stores (entry_path c.args.layout.now c.args.node.now c.args.name.now c.args.kind)
-    c.args.bytes.now 0 ∷ []) (λ e. absurd (cc e)) refl c.requires.sure
-    (moves_at_rest state stood))
+    let stood = g.S.Storage.stood c.args.store.now in (
+      0,
+      tt,
+      nothing_yet _ _ state state stood stood c.args.trace.now c.args.trace.now
+          (Stores (entry_path c.args.layout.now c.args.node.now c.args.name.now c.args.kind)
+          c.args.bytes.now 0 ∷ []) (λ e. absurd (cc e)) refl c.requires.sure
+          (moves_at_rest state stood),
+    )
 
 pub put_recorded-requires-clause-no_data : goal.put_recorded-requires-clause-no_data
 put_recorded-requires-clause-no_data g c =
