@@ -1,6 +1,5 @@
 // Files that are read and written whole.
 use crate::faults::is_absent;
-use crate::paths::parent_of;
 use crate::seconds::{modified_second, moment_of};
 use std::alloc::Global;
 use std::fs::{DirBuilder, File, FileTimes, Files, Metadata, OpenFile, OpenOptions};
@@ -50,6 +49,16 @@ pub(crate) enum Found {
     Here(Metadata),
 }
 
+/// What lies at a path. It follows no link there.
+pub(crate) fn look_at<R: Files>(rt: &R, path: &str) -> io::Result<Found> {
+    match fs::symlink_metadata(rt, path) {
+        Ok(metadata) if metadata.is_symlink() => Ok(Found::Link),
+        Ok(metadata) => Ok(Found::Here(metadata)),
+        Err(error) if is_absent(&error) => Ok(Found::Nothing),
+        Err(error) => Err(error),
+    }
+}
+
 /// What lies at a path below `top`. It follows no link.
 pub(crate) fn look_below<R: Files>(
     rt: &R,
@@ -96,6 +105,11 @@ pub(crate) fn make_folders<R: Files>(rt: &R, path: &str) -> io::Result<()> {
         .create(rt, path)
 }
 
+/// Makes a folder. Only its owner may enter it.
+pub(crate) fn make_folder<R: Files>(rt: &R, path: &str) -> io::Result<()> {
+    DirBuilder::new().mode(0o700).create(rt, path)
+}
+
 /// Removes a file or a link, where there is one. It takes no memory.
 pub(crate) fn remove_there<R: Files>(rt: &R, path: &str) -> io::Result<()> {
     match fs::remove_file(rt, path) {
@@ -104,23 +118,42 @@ pub(crate) fn remove_there<R: Files>(rt: &R, path: &str) -> io::Result<()> {
     }
 }
 
-/// A new file that only its owner reads, in place of one that was left. It follows no link.
-pub(crate) fn create_anew<R: Files>(rt: &R, path: &str) -> io::Result<R::File> {
-    remove_there(rt, path)?;
+fn create_new<R: Files>(rt: &R, path: &str) -> io::Result<R::File> {
     let mut options = OpenOptions::new();
     options.write(true).create_new(true).mode(0o600);
     options.open(rt, path)
 }
 
-/// Gives a file that was written the modified time of a second, and has the system keep it. Where
-/// the system tells another size in bytes, or another second, it refuses.
-pub(crate) fn settle<F: OpenFile>(file: &F, size: u64, second: u64) -> io::Result<()> {
-    file.set_times(FileTimes::new().set_modified(moment_of(second)?))?;
-    let metadata = file.metadata()?;
-    if metadata.len() != size || modified_second(&metadata)? != second {
+/// A new file that only its owner reads, in place of one that was left. It follows no link.
+pub(crate) fn create_anew<R: Files>(rt: &R, path: &str) -> io::Result<R::File> {
+    match create_new(rt, path) {
+        Err(error) if error.kind() == ErrorKind::AlreadyExists => {
+            remove_there(rt, path)?;
+            create_new(rt, path)
+        }
+        outcome => outcome,
+    }
+}
+
+fn is_settled(metadata: &Metadata, second: u64) -> bool {
+    match modified_second(metadata) {
+        Ok(modified) => modified == second,
+        Err(_) => false,
+    }
+}
+
+/// Gives a file that was written the modified time of a second, and answers what the system tells
+/// of it. Where that is another size in bytes, or another second, it refuses.
+pub(crate) fn settle<F: OpenFile>(file: &F, size: u64, second: u64) -> io::Result<Metadata> {
+    let mut metadata = file.metadata()?;
+    if !is_settled(&metadata, second) {
+        file.set_times(FileTimes::new().set_modified(moment_of(second)?))?;
+        metadata = file.metadata()?;
+    }
+    if metadata.len() != size || !is_settled(&metadata, second) {
         return Err(io::Error::from(ErrorKind::InvalidData));
     }
-    file.sync_all()
+    Ok(metadata)
 }
 
 /// Writes a new file whose modified time is that second, and has the system keep it.
@@ -129,10 +162,12 @@ pub(crate) fn write_anew<R: Files>(
     path: &str,
     bytes: &[u8],
     second: u64,
-) -> io::Result<()> {
+) -> io::Result<Metadata> {
     let mut file = create_anew(rt, path)?;
     file.write_all(bytes)?;
-    settle(&file, bytes.len() as u64, second)
+    let metadata = settle(&file, bytes.len() as u64, second)?;
+    file.sync_all()?;
+    Ok(metadata)
 }
 
 /// Has the system keep the names in a folder, where there is one. It takes no memory, so that what
@@ -154,13 +189,4 @@ pub(crate) fn sync_way<R: Files>(rt: &R, top: &str, path: &str) -> io::Result<()
         }
     }
     Ok(())
-}
-
-/// Moves a file to its place below `top`, in place of what was there, and has the system keep it.
-/// The folders are made. It takes no memory, so that a file that was moved isn't refused for want
-/// of it.
-pub(crate) fn move_in<R: Files>(rt: &R, from: &str, top: &str, to: &str) -> io::Result<()> {
-    make_folders(rt, parent_of(to))?;
-    fs::rename(rt, from, to)?;
-    sync_way(rt, top, to)
 }

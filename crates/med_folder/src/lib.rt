@@ -7,23 +7,27 @@
 //! Read `specs/Untold.antt`, then `src/faults.rt` and `src/store.rt`.
 #![tactic(auto)]
 
-mod appended;
 mod faults;
 mod files;
 mod keys;
+mod locks;
 mod measure;
 mod nodes;
 mod objects;
 mod pages;
 mod paths;
 mod pieces;
+mod prints;
 mod real_files;
 mod seconds;
 mod sink;
 mod snap;
 mod store;
+mod tree;
 mod uploads;
+mod waiting;
 mod walk;
+mod ways;
 
 pub use nodes::FolderNodes;
 pub use real_files::RealFiles;

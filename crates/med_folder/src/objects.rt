@@ -4,172 +4,182 @@ ghost use Rattle.med_outside.specs.Pieces.{EndsInRange};
 ghost use Rattle.med_folder.specs.Place.{is_object_path};
 
 use crate::faults::is_absent;
-use crate::files::{
-    Found, check_folder, is_plain_way, look_below, move_in, remove_there, sync_there, write_anew,
-};
+use crate::files::{remove_there, sync_there, sync_way, write_anew};
+use crate::locks::{Change, part_place};
 use crate::measure::fingerprint_read;
-use crate::paths::{PUT, UNFINISHED, is_object_path, joined, parent_of};
+use crate::paths::{is_object_path, joined, parent_of};
 use crate::pieces::{end_of, next_piece};
 use crate::seconds::modified_second;
+use crate::tree::Tree;
 use med_outside::{Piece, Stat};
 use std::alloc::Global;
-use std::fs::{File, Files, OpenFile};
+use std::fs::{File, Files, Metadata};
 use std::io;
 use std::io::{ErrorKind, Read, Seek, SeekFrom};
 
-/// The path of an object's file. Where the bucket's folder isn't there, or no object can have the
-/// path, it refuses.
-pub(crate) fn place_of<R: Files>(
-    rt: &R,
-    alloc: Global,
-    bucket: &str,
-    path: &str,
-) -> io::Result<String>
+/// The path of an object's file. Where no bucket is open, or no object can have the path, it
+/// refuses.
+pub(crate) fn place_of(alloc: Global, bucket: &str, path: &str) -> io::Result<String>
     ensures place { OnOk result (is_object_path path.now ≡ true) }
     ensures value { IfOk result
         (λ place. string_bytes place ≡ bucket.now ++ codes "/" ++ path.now) }
 {
-    check_folder(rt, bucket)?;
+    if bucket.is_empty() {
+        return Err(io::Error::from(ErrorKind::NotFound));
+    }
     if !is_object_path(path.as_bytes()) {
         return Err(io::Error::from(ErrorKind::InvalidFilename));
     }
     Ok(joined(alloc, bucket, path)?)
 }
 
-/// Refuses where a link leads to the folder of an object's file, or to that of unfinished files.
-pub(crate) fn check_ways<R: Files>(
-    rt: &R,
-    alloc: Global,
-    bucket: &str,
-    path: &str,
-) -> io::Result<()> {
-    if is_plain_way(rt, alloc, bucket, parent_of(path))?
-        && is_plain_way(rt, alloc, bucket, UNFINISHED)?
-    {
-        Ok(())
-    } else {
-        Err(io::Error::from(ErrorKind::InvalidFilename))
-    }
-}
-
-/// Writes an object's file, and moves it to its place.
-pub(crate) fn put_file<R: Files>(
-    rt: &R,
-    alloc: Global,
-    bucket: &str,
-    path: &str,
-    bytes: &[u8],
-    second: u64,
-) -> io::Result<()>
-    ensures { OnOk result (is_object_path path.now ≡ true) }
-{
-    let place = place_of(rt, alloc, bucket, path)?;
-    check_ways(rt, alloc, bucket, path)?;
-    let unfinished = joined(alloc, bucket, PUT)?;
-    write_anew(rt, unfinished.as_str(), bytes, second)?;
-    move_in(rt, unfinished.as_str(), bucket, place.as_str())
-}
-
-// Whether a plain file lies at a path below the bucket's folder. A link there or on the way is a
-// refusal.
-fn is_file_there<R: Files>(rt: &R, alloc: Global, bucket: &str, path: &str) -> io::Result<bool> {
-    match look_below(rt, alloc, bucket, path)? {
-        Found::Nothing => Ok(false),
-        Found::Link => Err(io::Error::from(ErrorKind::FilesystemLoop)),
-        Found::Here(metadata) => Ok(metadata.is_file()),
-    }
-}
-
-// The file of an object, or none where there is none.
-fn open_there<R: Files>(
-    rt: &R,
-    alloc: Global,
-    bucket: &str,
-    path: &str,
-) -> io::Result<Option<R::File>>
-    ensures { OnOk result (is_object_path path.now ≡ true) }
-{
-    let place = place_of(rt, alloc, bucket, path)?;
-    if !is_file_there(rt, alloc, bucket, path)? {
-        return Ok(None);
-    }
-    match File::open(rt, place.as_str()) {
+// A file, or none where there is none.
+fn open_if_there<R: Files>(rt: &R, place: &str) -> io::Result<Option<R::File>> {
+    match File::open(rt, place) {
         Ok(file) => Ok(Some(file)),
         Err(error) if is_absent(&error) => Ok(None),
         Err(error) => Err(error),
     }
 }
 
-/// The fingerprint and the second of an object. Its file is read through by pieces.
-pub(crate) fn stat_file<R: Files>(
-    rt: &R,
-    alloc: Global,
-    bucket: &str,
-    path: &str,
-) -> io::Result<Option<Stat>>
-    ensures { OnOk result (is_object_path path.now ≡ true) }
-{
-    let Some(mut file) = open_there(rt, alloc, bucket, path)? else {
-        return Ok(None);
-    };
-    let second = modified_second(&file.metadata()?)?;
-    let fingerprint = fingerprint_read(alloc, &mut file)?;
-    Ok(Some(Stat {
-        fingerprint,
-        second,
-    }))
-}
-
-/// The bytes of an object.
-pub(crate) fn get_file<R: Files>(
-    rt: &R,
-    alloc: Global,
-    bucket: &str,
-    path: &str,
-) -> io::Result<Option<Vec<u8>>>
-    ensures { OnOk result (is_object_path path.now ≡ true) }
-{
-    let Some(mut file) = open_there(rt, alloc, bucket, path)? else {
-        return Ok(None);
-    };
-    let mut bytes = Vec::new(alloc);
-    file.read_to_end(&mut bytes)?;
-    Ok(Some(bytes))
-}
-
-/// The bytes of an object from a place on, up to a piece.
-pub(crate) fn piece_of_file<R: Files>(
-    rt: &R,
-    alloc: Global,
-    bucket: &str,
-    path: &str,
-    from: u64,
-) -> io::Result<Option<Piece>>
-    ensures place { OnOk result (is_object_path path.now ≡ true) }
-    ensures range { IfOk result (λ found. IfSome found (EndsInRange from)) }
-{
-    let Some(mut file) = open_there(rt, alloc, bucket, path)? else {
-        return Ok(None);
-    };
-    file.seek(SeekFrom::Start(from))?;
-    let piece = next_piece(alloc, &mut file)?;
-    end_of(from, &piece)?;
-    Ok(Some(piece))
-}
-
-/// Removes an object's file, where there is one. Where there is none the folder is synced too: what
-/// removed the file may have been stopped before that.
-pub(crate) fn delete_file<R: Files>(
-    rt: &R,
-    alloc: Global,
-    bucket: &str,
-    path: &str,
-) -> io::Result<()>
-    ensures { OnOk result (is_object_path path.now ≡ true) }
-{
-    let place = place_of(rt, alloc, bucket, path)?;
-    if is_file_there(rt, alloc, bucket, path)? {
-        remove_there(rt, place.as_str())?;
+impl<R: Files<File = File>> Tree<R> {
+    /// Writes an object's file, and moves it to its place. The system has kept all that waited
+    /// before, and keeps this file before it takes its place.
+    pub(crate) fn put(
+        &mut self,
+        alloc: Global,
+        bucket: &str,
+        change: Change<'_>,
+        path: &str,
+        bytes: &[u8],
+        second: u64,
+    ) -> io::Result<()>
+        ensures { OnOk result (is_object_path path.now ≡ true) }
+    {
+        let place = place_of(alloc, bucket, path)?;
+        self.hold(alloc, bucket, change)?;
+        self.waiting.sync(&self.rt)?;
+        let part = part_place(alloc, bucket, change)?;
+        let metadata = write_anew(&self.rt, part.as_str(), bytes, second)?;
+        self.prints.forget(&metadata);
+        self.move_in(alloc, bucket, path, part.as_str(), place.as_str())?;
+        sync_way(&self.rt, bucket, place.as_str())
     }
-    sync_there(rt, parent_of(place.as_str()))
+
+    // The file of an object, or none where there is none.
+    fn open_there(&mut self, alloc: Global, bucket: &str, path: &str) -> io::Result<Option<File>>
+        ensures { OnOk result (is_object_path path.now ≡ true) }
+    {
+        let place = place_of(alloc, bucket, path)?;
+        match self.find_file(alloc, bucket, path)? {
+            Some(_) => open_if_there(&self.rt, place.as_str()),
+            None => Ok(None),
+        }
+    }
+
+    // Reads a file through by pieces, and notes its fingerprint.
+    fn stat_anew(&mut self, alloc: Global, place: &str) -> io::Result<Option<Stat>> {
+        let Some(mut file) = open_if_there(&self.rt, place)? else {
+            return Ok(None);
+        };
+        let metadata = file.metadata()?;
+        let second = modified_second(&metadata)?;
+        let fingerprint = fingerprint_read(alloc, &mut file)?;
+        self.prints.note(alloc, &metadata, fingerprint);
+        Ok(Some(Stat {
+            fingerprint,
+            second,
+        }))
+    }
+
+    // The fingerprint that was noted, where the file is as it was then.
+    fn stat_noted(&self, metadata: &Metadata) -> io::Result<Option<Stat>> {
+        let Some(fingerprint) = self.prints.known(metadata) else {
+            return Ok(None);
+        };
+        let second = modified_second(metadata)?;
+        Ok(Some(Stat {
+            fingerprint,
+            second,
+        }))
+    }
+
+    /// The fingerprint and the second of an object. Its file is read through once in a run, as long
+    /// as it stays as it was.
+    pub(crate) fn stat(
+        &mut self,
+        alloc: Global,
+        bucket: &str,
+        path: &str,
+    ) -> io::Result<Option<Stat>>
+        ensures { OnOk result (is_object_path path.now ≡ true) }
+    {
+        let place = place_of(alloc, bucket, path)?;
+        let Some(metadata) = self.find_file(alloc, bucket, path)? else {
+            return Ok(None);
+        };
+        match self.stat_noted(&metadata)? {
+            Some(stat) => Ok(Some(stat)),
+            None => self.stat_anew(alloc, place.as_str()),
+        }
+    }
+
+    /// The bytes of an object.
+    pub(crate) fn get(
+        &mut self,
+        alloc: Global,
+        bucket: &str,
+        path: &str,
+    ) -> io::Result<Option<Vec<u8>>>
+        ensures { OnOk result (is_object_path path.now ≡ true) }
+    {
+        let Some(mut file) = self.open_there(alloc, bucket, path)? else {
+            return Ok(None);
+        };
+        let mut bytes = Vec::new(alloc);
+        file.read_to_end(&mut bytes)?;
+        Ok(Some(bytes))
+    }
+
+    /// The bytes of an object from a place on, up to a piece.
+    pub(crate) fn piece(
+        &mut self,
+        alloc: Global,
+        bucket: &str,
+        path: &str,
+        from: u64,
+    ) -> io::Result<Option<Piece>>
+        ensures place { OnOk result (is_object_path path.now ≡ true) }
+        ensures range { IfOk result (λ found. IfSome found (EndsInRange from)) }
+    {
+        let Some(mut file) = self.open_there(alloc, bucket, path)? else {
+            return Ok(None);
+        };
+        file.seek(SeekFrom::Start(from))?;
+        let piece = next_piece(alloc, &mut file)?;
+        end_of(from, &piece)?;
+        Ok(Some(piece))
+    }
+
+    /// Removes an object's file, where there is one. The system has kept all that waited before.
+    /// Where there is no file the folder is synced too: what removed it may have been stopped
+    /// before that.
+    pub(crate) fn delete(
+        &mut self,
+        alloc: Global,
+        bucket: &str,
+        change: Change<'_>,
+        path: &str,
+    ) -> io::Result<()>
+        ensures { OnOk result (is_object_path path.now ≡ true) }
+    {
+        let place = place_of(alloc, bucket, path)?;
+        self.hold(alloc, bucket, change)?;
+        self.waiting.sync(&self.rt)?;
+        if let Some(metadata) = self.find_file(alloc, bucket, path)? {
+            remove_there(&self.rt, place.as_str())?;
+            self.prints.forget(&metadata);
+        }
+        sync_there(&self.rt, parent_of(place.as_str()))
+    }
 }

@@ -10,12 +10,6 @@ use std::alloc::{AllocError, Global};
 /// The folder of unfinished files, beside the objects.
 pub(crate) const UNFINISHED: &str = ".medusa-tmp";
 
-/// The file that a put writes before it takes its place.
-pub(crate) const PUT: &str = ".medusa-tmp/rest";
-
-/// The file of an upload before it takes its place. A put in the meantime leaves it.
-pub(crate) const UPLOAD: &str = ".medusa-tmp/upload";
-
 fn is_separator(byte: u8) -> bool
     ensures { result ≡ is_separator byte }
 {

@@ -4,31 +4,36 @@ ghost use Rattle.med_outside.specs.declared.denied.Denied.TheVariants.{Failed, M
 ghost use Rattle.med_outside.specs.Pages.{CountsDown, IsPage, last_path, shown};
 ghost use Rattle.med_outside.specs.Pieces.{AnswersPiece, EndsInRange, begun, with_piece, with_upload};
 ghost use Rattle.med_outside.specs.State.{ChangesOnce, IsCalled, OnlyReads, bucket_of};
+ghost use Rattle.med_base.specs.Part.{owner_of};
 ghost use Rattle.med_outside.specs.Storage.{AnswersBytes, AnswersStat, Delete, MayDelete, MayPut, Put};
 ghost use Rattle.med_folder.specs.Listing.{AreShown, AreInOrder};
 ghost use Rattle.med_folder.specs.Place.{bucket_folder, is_object_path};
 ghost use Rattle.med_folder.specs.Untold.{untold, never};
 
-use crate::faults::{counted, is_absent};
+use crate::faults::counted;
 use crate::files::{make_folders, sync_way};
-use crate::objects::{delete_file, get_file, piece_of_file, put_file, stat_file};
+use crate::locks::Change;
 use crate::pages::page_behind;
 use crate::paths::{UNFINISHED, joined};
 use crate::seconds::second_or;
-use crate::uploads::{Unfinished, append_to, begin_file, commit_file, give_up};
-use med_base::{Layout, NoMemory, ObjPath};
+use crate::tree::Tree;
+use crate::uploads::Unfinished;
+use med_base::{Layout, NoMemory, ObjPath, PathKind};
 use med_outside::{Denied, Page, PageEnd, Piece, Stat, Storage};
 use std::alloc::Global;
-use std::fs::Files;
+use std::fs::{File, Files};
+use std::io;
 use std::marker::Model;
 use std::time::Clock;
-use std::{fs, io};
 
 /// A bucket whose objects are plain files: the object `p` is the file `<base>/<bucket>/p`. A put
 /// writes a file under `<base>/<bucket>/.medusa-tmp`, which no listing shows, and renames it.
+///
+/// The first change of a path of a node takes a lock, which is held until the store is dropped.
+/// Where another program holds it, each change of the node's paths is a fault.
 #[derive(Drop)]
-pub struct FolderStore<R: Files> {
-    rt: R,
+pub struct FolderStore<R> {
+    tree: Tree<R>,
     folder: String,
     base: String,
     bucket: String,
@@ -36,10 +41,10 @@ pub struct FolderStore<R: Files> {
     opens: u64,
     last: u64,
     faults: u64,
-    upload: Option<Unfinished<R::File>>,
+    upload: Option<Unfinished>,
 }
 
-impl<R: Files> Model for FolderStore<R> {
+impl<R> Model for FolderStore<R> {
     ghost use Rattle.std.specs.Prelude.{◌≡◌, ◌⊎◌, [], string_bytes};
     ghost use Rattle.med_outside.specs.State.{bucket_of};
     ghost use Rattle.med_folder.specs.Place.{bucket_folder};
@@ -58,13 +63,13 @@ impl<R: Files> Model for FolderStore<R> {
         ⊎ (string_bytes s.folder ≡ bucket_folder (string_bytes s.base) (string_bytes s.bucket)) };
 }
 
-impl<R: Files> FolderStore<R> {
+impl<R> FolderStore<R> {
     /// A store that isn't open yet: until then each put and listing is a fault. It takes no memory.
     pub fn new(alloc: Global, rt: R) -> FolderStore<R>
         ensures { result ≡ record { faults = 0; bucket = bucket_of [] [] [] 0; upload = None } }
     {
         FolderStore {
-            rt,
+            tree: Tree::new(alloc, rt),
             folder: String::new(alloc),
             base: String::new(alloc),
             bucket: String::new(alloc),
@@ -77,16 +82,8 @@ impl<R: Files> FolderStore<R> {
     }
 }
 
-// Makes a folder that holds nothing in place of what was there. It follows no link.
-fn clear_folder<R: Files + AllocGlobal>(rt: &R, path: &str) -> io::Result<()> {
-    match fs::remove_dir_all(rt, path) {
-        Err(error) if !is_absent(&error) => return Err(error),
-        _ => {}
-    }
-    make_folders(rt, path)
-}
-
-// Makes the bucket's folder, and its folder of unfinished files anew. It answers the bucket's.
+// Makes the bucket's folder and its folder of unfinished files, where they aren't there. It
+// answers the bucket's.
 fn open_bucket<R: Files + AllocGlobal>(
     rt: &R,
     alloc: Global,
@@ -98,12 +95,27 @@ fn open_bucket<R: Files + AllocGlobal>(
     let folder = joined(alloc, base, bucket)?;
     make_folders(rt, folder.as_str())?;
     let unfinished = joined(alloc, folder.as_str(), UNFINISHED)?;
-    clear_folder(rt, unfinished.as_str())?;
+    make_folders(rt, unfinished.as_str())?;
     sync_way(rt, base, unfinished.as_str())?;
     Ok(folder)
 }
 
-impl<R: Files + Clock + AllocGlobal + Clone + Drop> Storage for FolderStore<R> {
+// The node to which a path belongs under a layout, if it belongs to one.
+fn owner_of<'a>(layout: &Layout, path: &'a ObjPath) -> Option<&'a str>
+    ensures { option_map (λ owner. owner.now) result ≡ owner_of layout.now path.now }
+{
+    match layout.classify(path) {
+        PathKind::Shared { owner, .. } => Some(owner),
+        PathKind::Own { owner, .. } => Some(owner),
+        PathKind::Meta { owner, .. } => Some(owner),
+        PathKind::Stray { owner, .. } => Some(owner),
+        PathKind::IndexEntry { owner, .. } => Some(owner),
+        PathKind::Latest { owner, .. } => Some(owner),
+        PathKind::Other => None,
+    }
+}
+
+impl<R: Files<File = File> + Clock + AllocGlobal + Clone + Drop> Storage for FolderStore<R> {
     ghost state = { untold };
 
     ghost stood = { λ _. never };
@@ -118,7 +130,7 @@ impl<R: Files + Clock + AllocGlobal + Clone + Drop> Storage for FolderStore<R> {
         let layout = prefix.copy(alloc)?;
         let base_text = String::from_str(alloc, base)?;
         let bucket_text = String::from_str(alloc, bucket)?;
-        let outcome = open_bucket(&self.rt, alloc, base, bucket);
+        let outcome = open_bucket(&self.tree.rt, alloc, base, bucket);
         self.folder = counted(&mut self.faults, outcome)?;
         self.base = base_text;
         self.bucket = bucket_text;
@@ -128,7 +140,7 @@ impl<R: Files + Clock + AllocGlobal + Clone + Drop> Storage for FolderStore<R> {
     }
 
     fn now(&mut self) -> u64 {
-        self.last = second_or(&self.rt, self.last);
+        self.last = second_or(&self.tree.rt, self.last);
         self.last
     }
 
@@ -140,7 +152,7 @@ impl<R: Files + Clock + AllocGlobal + Clone + Drop> Storage for FolderStore<R> {
         ensures called { IsCalled (untold self.old) (untold self.new) result }
         ensures place { OnOk result (is_object_path path.now ≡ true) }
     {
-        let outcome = stat_file(&self.rt, alloc, self.folder.as_str(), path.as_str());
+        let outcome = self.tree.stat(alloc, self.folder.as_str(), path.as_str());
         counted(&mut self.faults, outcome)
     }
 
@@ -153,7 +165,7 @@ impl<R: Files + Clock + AllocGlobal + Clone + Drop> Storage for FolderStore<R> {
         ensures called { IsCalled (untold self.old) (untold self.new) result }
         ensures place { OnOk result (is_object_path path.now ≡ true) }
     {
-        let outcome = get_file(&self.rt, alloc, self.folder.as_str(), path.as_str());
+        let outcome = self.tree.get(alloc, self.folder.as_str(), path.as_str());
         counted(&mut self.faults, outcome)
     }
 
@@ -169,8 +181,14 @@ impl<R: Files + Clock + AllocGlobal + Clone + Drop> Storage for FolderStore<R> {
         ensures place { OnOk result (is_object_path path.now ≡ true) }
     {
         let second = self.now();
+        let change = Change {
+            owner: owner_of(&self.layout, path),
+            is_meanwhile: self.upload.is_some(),
+        };
         let bucket = self.folder.as_str();
-        let outcome = put_file(&self.rt, alloc, bucket, path.as_str(), bytes, second);
+        let outcome = self
+            .tree
+            .put(alloc, bucket, change, path.as_str(), bytes, second);
         counted(&mut self.faults, outcome)?;
         Ok(second)
     }
@@ -188,7 +206,12 @@ impl<R: Files + Clock + AllocGlobal + Clone + Drop> Storage for FolderStore<R> {
         ensures called { IsCalled (untold self.old) (untold self.new) result }
         ensures place { OnOk result (is_object_path path.now ≡ true) }
     {
-        let outcome = delete_file(&self.rt, alloc, self.folder.as_str(), path.as_str());
+        let change = Change {
+            owner: owner_of(&self.layout, path),
+            is_meanwhile: self.upload.is_some(),
+        };
+        let bucket = self.folder.as_str();
+        let outcome = self.tree.delete(alloc, bucket, change, path.as_str());
         counted(&mut self.faults, outcome)
     }
 
@@ -212,7 +235,7 @@ impl<R: Files + Clock + AllocGlobal + Clone + Drop> Storage for FolderStore<R> {
         ensures path { IfOk result (λ page. IfSome page.end
             (λ end. end.path ≡ last_path page.entries.items)) }
     {
-        let outcome = page_behind(&self.rt, alloc, self.folder.as_str(), under, after);
+        let outcome = page_behind(&self.tree.rt, alloc, self.folder.as_str(), under, after);
         counted(&mut self.faults, outcome)
     }
 
@@ -234,7 +257,7 @@ impl<R: Files + Clock + AllocGlobal + Clone + Drop> Storage for FolderStore<R> {
         ensures place { OnOk result (is_object_path path.now ≡ true) }
     {
         let bucket = self.folder.as_str();
-        let outcome = piece_of_file(&self.rt, alloc, bucket, path.as_str(), from);
+        let outcome = self.tree.piece(alloc, bucket, path.as_str(), from);
         counted(&mut self.faults, outcome)
     }
 
@@ -247,7 +270,12 @@ impl<R: Files + Clock + AllocGlobal + Clone + Drop> Storage for FolderStore<R> {
         ensures called { IsCalled (untold self.old) (untold self.new) result }
         ensures place { OnOk result (is_object_path path.now ≡ true) }
     {
-        let outcome = begin_file(&self.rt, alloc, self.folder.as_str(), path.as_str());
+        let change = Change {
+            owner: owner_of(&self.layout, path),
+            is_meanwhile: false,
+        };
+        let bucket = self.folder.as_str();
+        let outcome = self.tree.begin(alloc, bucket, change, path.as_str());
         self.upload = Some(counted(&mut self.faults, outcome)?);
         Ok(())
     }
@@ -261,7 +289,7 @@ impl<R: Files + Clock + AllocGlobal + Clone + Drop> Storage for FolderStore<R> {
             (OnlyReads (with_upload None (untold self.old)) (untold self.new) never never) }
         ensures called { IsCalled (untold self.old) (untold self.new) result }
     {
-        let outcome = append_to(&self.rt, self.upload.take(), piece.bytes());
+        let outcome = self.tree.append(self.upload.take(), piece.bytes());
         self.upload = Some(counted(&mut self.faults, outcome)?);
         Ok(())
     }
@@ -283,14 +311,16 @@ impl<R: Files + Clock + AllocGlobal + Clone + Drop> Storage for FolderStore<R> {
     {
         let second = self.now();
         let upload = self.upload.take();
-        let outcome = commit_file(&self.rt, alloc, self.folder.as_str(), upload, second);
+        let outcome = self
+            .tree
+            .commit(alloc, self.folder.as_str(), upload, second);
         counted(&mut self.faults, outcome)?;
         Ok(second)
     }
 
     fn drop_upload(&mut self) {
         if let Some(upload) = self.upload.take() {
-            give_up(&self.rt, upload);
+            self.tree.give_up(upload);
         }
     }
 
