@@ -121,9 +121,9 @@ impl<R: Files<File = File>> Tree<R> {
         }
     }
 
-    /// Makes an upload an object. Where there is no upload, or its file hasn't as many bytes as were
-    /// appended, it refuses. After a refusal the file is given up. Where many files wait, the system
-    /// keeps them.
+    /// Makes an upload an object. Where there is no upload, or its file hasn't as many bytes as
+    /// were appended, it refuses. After a refusal the file is given up. Where many files wait, the
+    /// system keeps them.
     pub(crate) fn commit(
         &mut self,
         alloc: Global,
