@@ -2,43 +2,14 @@
 ghost use Rattle.med_outside.specs.State.{IsAtRest};
 
 use crate::calls::{entries_text, is_answered, list, put};
-use crate::places::is_done;
 use med_folder::FolderStore;
 use med_outside::Storage;
+use med_suite_rows::rows::first_wrong;
 use std::alloc::Global;
 use std::fs;
 use std::fs::Files;
 use std::os::unix::fs::MetadataExt;
 use std::time::{Clock, SystemTime, UNIX_EPOCH};
-
-// A row with an answer is a call of the storage, and one without makes or looks for a file.
-fn is_right<R: Files, S: Storage>(rt: &R, alloc: Global, store: &mut S, row: &str) -> Option<bool>
-    requires { IsAtRest (S.state store.old) }
-    ensures { IsAtRest (S.state store.new) }
-{
-    match row.split_once(" => ") {
-        Some((call, wanted)) => is_answered(alloc, store, call, wanted),
-        None => Some(is_done(rt, row)),
-    }
-}
-
-// The first row that is answered otherwise, or can't be done.
-fn first_wrong<'a, R: Files, S: Storage>(
-    rt: &R,
-    alloc: Global,
-    store: &mut S,
-    table: &'a str,
-) -> Option<&'a str>
-    requires { IsAtRest (S.state store.old) }
-    ensures { IsAtRest (S.state store.new) }
-{
-    for row in table.split('\n') {
-        if is_right(rt, alloc, store, row) != Some(true) {
-            return Some(row);
-        }
-    }
-    None
-}
 
 fn clock_second<R: Clock>(rt: &R) -> Option<u64> {
     let now = SystemTime::now(rt).ok()?;

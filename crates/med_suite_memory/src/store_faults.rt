@@ -1,0 +1,75 @@
+// A storage in memory that is set to fail.
+use med_base::ObjPath;
+use med_mem::{MemStore, MemWhen};
+use med_outside::Storage;
+use med_suite_rows::calls::is_answered;
+use std::alloc::Global;
+
+// A row `step NUMBER EFFECT` or `put PATH EFFECT`: the call of that number, or the next put of that
+// path, fails, and takes effect where EFFECT is `lands`.
+fn set(alloc: Global, store: &mut MemStore, row: &str) -> Option<()> {
+    let (word, rest) = row.split_once(' ')?;
+    let (what, effect) = rest.split_once(' ')?;
+    let when = match word {
+        "step" => MemWhen::Step(what.parse::<u64>().ok()?),
+        "put" => MemWhen::PutOf(ObjPath::of(alloc, what).ok()?),
+        _ => return None,
+    };
+    store.fail(when, effect == "lands").ok()
+}
+
+// A row with an answer is a call of the storage, and one without sets a call to fail. There is no
+// upload between two rows.
+fn is_right(alloc: Global, store: &mut MemStore, row: &str) -> Option<bool> {
+    store.drop_upload();
+    match row.split_once(" => ") {
+        Some((call, wanted)) => is_answered(alloc, store, call, wanted),
+        None => Some(set(alloc, store, row).is_some()),
+    }
+}
+
+// The first row that is answered otherwise.
+fn first_wrong<'a>(alloc: Global, store: &mut MemStore, table: &'a str) -> Option<&'a str> {
+    for row in table.split('\n') {
+        if is_right(alloc, store, row) != Some(true) {
+            return Some(row);
+        }
+    }
+    None
+}
+
+// The calls are counted from the opening on, which is the first.
+const SET: &str = "\
+step 3 lands
+step 5 misses
+step 7 lands
+step 11 lands
+step 13 misses
+open base/bucket => done
+put a=1 => 100
+put b=12 => failed
+get b => 12
+put c=123 => failed
+get c => absent
+get a => failed
+get a => 1
+sizes => a 1;b 2;
+put a=1234 => 110
+delete a => failed
+get a => absent
+delete b => failed
+get b => 12
+put b misses
+put a lands
+put c=1 => 115
+put b=1 => failed
+put a=2 => failed
+sizes => a 1;b 2;c 1;
+put b=1 => 125
+seconds => a 120;b 125;c 115;";
+
+#[test]
+fn a_call_that_is_set_to_fail_fails_with_and_without_effect(rt: HostRuntime) {
+    let mut store = MemStore::new(rt.alloc(), 100, 5);
+    assert_eq!(rt; first_wrong(rt.alloc(), &mut store, SET), None);
+}
