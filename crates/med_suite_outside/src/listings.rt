@@ -1,6 +1,6 @@
 // Listings of a storage of folders in pages.
-use med_suite_rows::calls::refusal;
-use med_suite_rows::places::{is_done, write_file};
+use crate::calls::refusal;
+use crate::places::{is_done, write_file};
 use med_base::Layout;
 use med_folder::FolderStore;
 use med_outside::{Entry, Page, PageEnd, Storage};
