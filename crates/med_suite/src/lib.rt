@@ -6,8 +6,12 @@
 #[cfg(test)]
 mod calls;
 #[cfg(test)]
+mod pieces;
+#[cfg(test)]
 mod refused;
 #[cfg(test)]
 mod rows;
 #[cfg(test)]
 mod said;
+#[cfg(test)]
+mod storage_faults;

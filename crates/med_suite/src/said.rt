@@ -105,7 +105,7 @@ pub(crate) fn files(alloc: Global, scene: &Scene) -> Result<MemFiles, NoMemory> 
     Ok(files)
 }
 
-fn key(alloc: Global, name: &str) -> Result<RawKey, NoMemory> {
+pub(crate) fn key(alloc: Global, name: &str) -> Result<RawKey, NoMemory> {
     Ok(RawKey {
         keyspace: String::from_str(alloc, "ks")?,
         table: String::from_str(alloc, "t-1")?,
