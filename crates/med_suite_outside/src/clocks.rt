@@ -5,7 +5,7 @@ use med_folder::FolderStore;
 use med_outside::Storage;
 use std::alloc::{Alloc, Allocator, Global};
 use std::cell::Cell;
-use std::fs::{Files, Metadata, OpenOptions};
+use std::fs::{File, Files, Metadata, OpenOptions};
 use std::io;
 use std::io::ErrorKind;
 use std::time::{Clock, Duration};
@@ -13,10 +13,10 @@ use std::time::{Clock, Duration};
 // The system. Its clock can be read as often as `readings` says and answers the second 7, and what
 // has a name that ends in a letter isn't opened.
 #[derive(Clone, Drop)]
-struct Failing<'a, R> {
-    rt: R,
-    readings: &'a Cell<u8>,
-    letter: &'a Cell<char>,
+pub(crate) struct Failing<'a, R> {
+    pub(crate) rt: R,
+    pub(crate) readings: &'a Cell<u8>,
+    pub(crate) letter: &'a Cell<char>,
 }
 
 impl<R: Clock> Clock for Failing<'_, R> {
@@ -109,9 +109,9 @@ fn a_clock_that_cant_be_read_gives_the_last_second(rt: HostRuntime) {
     assert_eq!(rt; store.now(), 7);
 }
 
-// A call for `a/b/x` where what ends in a letter isn't opened, `put LETTER` or `delete LETTER`,
+// A call for `index/b/y` where what ends in a letter isn't opened, `put LETTER` or `delete LETTER`,
 // answers `done` or a refusal.
-fn is_right<R: Files + Clock + AllocGlobal + Clone + Drop>(
+fn is_right<R: Files<File = File> + Clock + AllocGlobal + Clone + Drop>(
     alloc: Global,
     store: &mut FolderStore<Failing<'_, R>>,
     letter: &Cell<char>,
@@ -120,7 +120,7 @@ fn is_right<R: Files + Clock + AllocGlobal + Clone + Drop>(
     let (call, wanted) = row.split_once(" => ")?;
     let (word, unopened) = call.split_once(' ')?;
     letter.set(unopened.chars().next()?);
-    let path = ObjPath::of(alloc, "a/b/x").ok()?;
+    let path = ObjPath::of(alloc, "index/b/y").ok()?;
     let denied = match word {
         "put" => store.put(alloc, &path, b"x").err(),
         "delete" => store.delete(alloc, &path).err(),
@@ -133,7 +133,7 @@ fn is_right<R: Files + Clock + AllocGlobal + Clone + Drop>(
 }
 
 // The first row whose call is answered otherwise.
-fn first_wrong<'a, R: Files + Clock + AllocGlobal + Clone + Drop>(
+fn first_wrong<'a, R: Files<File = File> + Clock + AllocGlobal + Clone + Drop>(
     alloc: Global,
     store: &mut FolderStore<Failing<'_, R>>,
     letter: &Cell<char>,
@@ -152,11 +152,11 @@ fn first_wrong<'a, R: Files + Clock + AllocGlobal + Clone + Drop>(
 const UNOPENED: &str = "\
 put - => done
 put b => failed
-put a => failed
+put x => failed
 put k => failed
 delete b => failed
 delete b => failed
-delete a => done
+delete x => done
 delete - => done";
 
 #[test]

@@ -90,11 +90,11 @@ fn a_store_that_isnt_open_refuses_each_call(rt: HostRuntime) {
 const LEFT: &str = "\
 file c/k/.medusa-tmp/left=left
 open c/k => done
-absent c/k/.medusa-tmp/left
-file c/k/.medusa-tmp/rest=a longer rest
+remove c/k/.medusa-tmp/left
+file c/k/.medusa-tmp/part-a=a longer rest
 put a/x=longer => listed
 put a/x=new => listed
-absent c/k/.medusa-tmp/rest
+absent c/k/.medusa-tmp/part-a
 file c/k/far=1
 date c/k/far=4000000000
 sizes => a/x 3;far 1;
@@ -106,7 +106,7 @@ fn rights_of<R: Files>(rt: &R, path: &str) -> Option<u32> {
 }
 
 #[test]
-fn what_was_left_is_cleared_and_an_object_is_replaced(rt: HostRuntime) {
+fn what_was_left_isnt_in_the_way_and_an_object_is_replaced(rt: HostRuntime) {
     let mut store = FolderStore::new(rt.alloc(), rt);
     assert_eq!(rt; first_wrong(&rt, rt.alloc(), &mut store, LEFT), None);
     let is_far = is_answered(rt.alloc(), &mut store, "seconds a/", "a/x 4000000000;");
@@ -128,6 +128,8 @@ remove d/k/.medusa-tmp
 folder d/k/.medusa-tmp
 put a/deep/x=no => failed
 put a/deep/below/x=no => failed
+absent away/part-a
+absent away/lock-c
 absent away/rest
 absent away/x
 absent away/below/x";
