@@ -15,3 +15,5 @@ mod folders;
 mod listings;
 #[cfg(test)]
 mod storages;
+#[cfg(test)]
+mod writing;
