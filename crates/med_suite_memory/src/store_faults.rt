@@ -73,3 +73,39 @@ fn a_call_that_is_set_to_fail_fails_with_and_without_effect(rt: HostRuntime) {
     let mut store = MemStore::new(rt.alloc(), 100, 5);
     assert_eq!(rt; first_wrong(rt.alloc(), &mut store, SET), None);
 }
+
+// The calls of an upload are counted each. The first isn't begun, the second fails at its piece,
+// the third and the fourth fail at their end.
+const UPLOADED: &str = "\
+step 2 misses
+step 4 misses
+step 8 misses
+step 11 lands
+open base/bucket => done
+upload a=1 => failed
+upload a=1 => failed
+sizes => nothing
+upload a=1 => failed
+upload a=12 => failed
+get a => 12
+put a lands
+put b misses
+upload a=123|4 => failed
+get a => 1234
+upload b=1 => failed
+get b => absent
+upload b=1 => 110
+step 25 lands
+step 26 lands
+piece b 0 => failed
+pages => failed
+piece b 0 => 1
+pages => 2 a b 0;
+drop b=2 => done
+get b => 1";
+
+#[test]
+fn an_upload_that_is_set_to_fail_fails_with_and_without_effect(rt: HostRuntime) {
+    let mut store = MemStore::new(rt.alloc(), 100, 5);
+    assert_eq!(rt; first_wrong(rt.alloc(), &mut store, UPLOADED), None);
+}
