@@ -1,6 +1,6 @@
 // The kind of a path.
 ghost use Rattle.std.specs.Prelude.{◌≡◌, is_none, option_map, unwrap_or, option_and_then, Some, None};
-ghost use Rattle.med_base.specs.Classify.{key_of, meta_of, pair_of, backup_kind, node_kind, entry_kind, latest_kind, index_kind, kind_below, kind_of, is_component};
+ghost use Rattle.med_base.specs.Classify.{key_of, meta_of, pair_of, backup_kind, node_kind, entry_kind, latest_kind, index_kind, kind_below, kind_of, is_component, is_data};
 ghost use Rattle.med_base.specs.Kinds.{as_data, Other};
 ghost use Rattle.med_base.specs.KindRelation.{IsOfKind};
 ghost use Rattle.med_base.specs.Names.{fqdn_fault, backup_fault};
@@ -21,6 +21,18 @@ impl Layout {
         match after(path.as_str(), self.before()) {
             Some(text) => below(text),
             None => PathKind::Other,
+        }
+    }
+
+    /// Whether the path is that of a data object: a file that backups share, or one backup's own.
+    /// It takes no memory.
+    pub fn is_data(&self, path: &ObjPath) -> bool
+        ensures { result ≡ is_data self.now path.now }
+    {
+        match self.classify(path) {
+            PathKind::Shared { .. } | PathKind::Own { .. } => true,
+            PathKind::Meta { .. } | PathKind::IndexEntry { .. } => false,
+            PathKind::Latest { .. } | PathKind::Stray { .. } | PathKind::Other => false,
         }
     }
 }

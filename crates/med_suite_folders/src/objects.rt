@@ -1,7 +1,8 @@
 // The objects of a storage of folders, byte for byte.
-ghost use Rattle.med_outside.specs.State.{IsAtRest};
+ghost use Rattle.std.specs.Prelude.{[]};
+ghost use Rattle.med_outside.specs.State.{IsReady};
 
-use med_base::{Fingerprint, ObjPath};
+use med_base::{Fingerprint, Layout, ObjPath};
 use med_folder::FolderStore;
 use med_outside::Storage;
 use med_suite_rows::calls::is_listed;
@@ -11,9 +12,12 @@ use std::alloc::Global;
 
 // Whether bytes are stored, and looked at and read as what they are.
 fn is_kept<S: Storage>(alloc: Global, store: &mut S, path: &ObjPath, bytes: &[u8]) -> Option<bool>
-    requires { IsAtRest (S.state store.old) }
-    ensures { IsAtRest (S.state store.new) }
+    requires { IsReady [] (S.state store.old) }
+    ensures { IsReady [] (S.state store.new) }
 {
+    if Layout::plain(alloc).is_data(path) {
+        return None;
+    }
     store.put(alloc, path, bytes).ok()?;
     let stat = store.stat(alloc, path).ok()??;
     let is_measured = stat.fingerprint == Fingerprint::of(bytes);
@@ -23,8 +27,8 @@ fn is_kept<S: Storage>(alloc: Global, store: &mut S, path: &ObjPath, bytes: &[u8
 }
 
 fn is_size_kept<S: Storage>(alloc: Global, store: &mut S, size: &str) -> Option<bool>
-    requires { IsAtRest (S.state store.old) }
-    ensures { IsAtRest (S.state store.new) }
+    requires { IsReady [] (S.state store.old) }
+    ensures { IsReady [] (S.state store.new) }
 {
     let path = ObjPath::of(alloc, "sized").ok()?;
     let bytes = many_bytes(alloc, size.parse::<u32>().ok()? as usize)?;
@@ -33,8 +37,8 @@ fn is_size_kept<S: Storage>(alloc: Global, store: &mut S, size: &str) -> Option<
 
 // The first size of which an object isn't kept.
 fn first_lost<'a, S: Storage>(alloc: Global, store: &mut S, sizes: &'a str) -> Option<&'a str>
-    requires { IsAtRest (S.state store.old) }
-    ensures { IsAtRest (S.state store.new) }
+    requires { IsReady [] (S.state store.old) }
+    ensures { IsReady [] (S.state store.new) }
 {
     for size in sizes.split(' ') {
         if is_size_kept(alloc, store, size) != Some(true) {

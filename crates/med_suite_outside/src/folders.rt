@@ -1,5 +1,6 @@
 // A storage of folders.
-ghost use Rattle.med_outside.specs.State.{IsAtRest};
+ghost use Rattle.std.specs.Prelude.{[]};
+ghost use Rattle.med_outside.specs.State.{IsReady};
 
 use crate::calls::{entries_text, is_answered, list, put};
 use med_folder::FolderStore;
@@ -18,8 +19,8 @@ fn clock_second<R: Clock>(rt: &R) -> Option<u64> {
 
 // Puts three objects, and answers their seconds.
 fn put_three<S: Storage>(alloc: Global, store: &mut S) -> Option<[u64; 3]>
-    requires { IsAtRest (S.state store.old) }
-    ensures { IsAtRest (S.state store.new) }
+    requires { IsReady [] (S.state store.old) }
+    ensures { IsReady [] (S.state store.new) }
 {
     let schema = put(alloc, store, "n1/b1/meta/schema.cql", "abc").ok()?;
     let empty = put(alloc, store, "a/x", "").ok()?;
@@ -28,8 +29,8 @@ fn put_three<S: Storage>(alloc: Global, store: &mut S) -> Option<[u64; 3]>
 }
 
 fn is_seconds<S: Storage>(alloc: Global, store: &mut S, under: &str, wanted: &str) -> Option<bool>
-    requires { IsAtRest (S.state store.old) }
-    ensures { IsAtRest (S.state store.new) }
+    requires { IsReady [] (S.state store.old) }
+    ensures { IsReady [] (S.state store.new) }
 {
     let entries = list(alloc, store, under).ok()?;
     Some(entries_text(alloc, entries.as_slice(), false)?.as_str() == wanted)
@@ -37,7 +38,7 @@ fn is_seconds<S: Storage>(alloc: Global, store: &mut S, under: &str, wanted: &st
 
 // Whether the listings under nothing and under a text that is no folder have these seconds.
 fn are_dated<S: Storage>(alloc: Global, store: &mut S, seconds: [u64; 3]) -> Option<bool>
-    requires { IsAtRest (S.state store.old) }
+    requires { IsReady [] (S.state store.old) }
 {
     let [schema, empty, dashed] = seconds;
     let under = format!(in alloc; "n1/b1/meta/schema.cql {schema};").ok()?;
@@ -59,7 +60,7 @@ sizes linked/ => nothing";
 // Whether a store that is open lists three objects with the seconds that their puts answered, the
 // first not before the clock's, and nothing of what is planted beside them.
 fn is_listed<R: Files + Clock, S: Storage>(rt: &R, alloc: Global, store: &mut S) -> Option<bool>
-    requires { IsAtRest (S.state store.old) }
+    requires { IsReady [] (S.state store.old) }
 {
     let start = clock_second(rt)?;
     let seconds = put_three(alloc, store)?;

@@ -1,5 +1,6 @@
 // One suite for every storage.
-ghost use Rattle.med_outside.specs.State.{IsAtRest};
+ghost use Rattle.std.specs.Prelude.{[]};
+ghost use Rattle.med_outside.specs.State.{IsReady};
 
 use crate::calls::first_wrong;
 use crate::places::write_many;
@@ -73,8 +74,8 @@ piece v/x 0 => nothing";
 
 // The first call of the suite that a storage answers otherwise.
 fn check_store<S: Storage>(alloc: Global, store: &mut S) -> Option<&'static str>
-    requires { IsAtRest (S.state store.old) }
-    ensures { IsAtRest (S.state store.new) }
+    requires { IsReady [] (S.state store.old) }
+    ensures { IsReady [] (S.state store.new) }
 {
     if let Some(row) = first_wrong(alloc, store, CALLS) {
         return Some(row);

@@ -1,5 +1,6 @@
 // Two storages over one folder, and what they leave there.
-ghost use Rattle.med_outside.specs.State.{IsAtRest};
+ghost use Rattle.std.specs.Prelude.{[]};
+ghost use Rattle.med_outside.specs.State.{IsReady};
 
 use crate::calls::{is_answered, refusal};
 use crate::clocks::Failing;
@@ -13,8 +14,8 @@ use std::fs::Files;
 
 // Stores an object in two pieces.
 fn upload<S: Storage>(alloc: Global, store: &mut S, path: &str, text: &str) -> Result<u64, Denied>
-    requires { IsAtRest (S.state store.old) }
-    ensures { IsAtRest (S.state store.new) }
+    requires { IsReady [] (S.state store.old) }
+    ensures { IsReady [] (S.state store.new) }
 {
     let path = ObjPath::of(alloc, path)?;
     let (head, tail) = text.as_bytes().split_at(text.len() / 2);
@@ -37,8 +38,8 @@ fn piece_of(alloc: Global, bytes: &[u8]) -> Option<Piece> {
 
 // An upload answers `done`, or a refusal.
 fn is_uploaded<S: Storage>(alloc: Global, store: &mut S, object: &str, wanted: &str) -> Option<bool>
-    requires { IsAtRest (S.state store.old) }
-    ensures { IsAtRest (S.state store.new) }
+    requires { IsReady [] (S.state store.old) }
+    ensures { IsReady [] (S.state store.new) }
 {
     let (path, text) = object.split_once('=')?;
     match upload(alloc, store, path, text) {
@@ -49,8 +50,8 @@ fn is_uploaded<S: Storage>(alloc: Global, store: &mut S, object: &str, wanted: &
 
 // Whether a storage answers a call as wanted: one of `is_answered`, or `upload PATH=TEXT`.
 fn is_called<S: Storage>(alloc: Global, store: &mut S, call: &str, wanted: &str) -> Option<bool>
-    requires { IsAtRest (S.state store.old) }
-    ensures { IsAtRest (S.state store.new) }
+    requires { IsReady [] (S.state store.old) }
+    ensures { IsReady [] (S.state store.new) }
 {
     match call.split_once(' ') {
         Some(("upload", object)) => is_uploaded(alloc, store, object, wanted),
@@ -77,10 +78,10 @@ fn is_right<R: Files, S: Storage, T: Storage>(
     two: &mut T,
     row: &str,
 ) -> Option<bool>
-    requires one { IsAtRest (S.state one.old) }
-    requires two { IsAtRest (T.state two.old) }
-    ensures one { IsAtRest (S.state one.new) }
-    ensures two { IsAtRest (T.state two.new) }
+    requires one { IsReady [] (S.state one.old) }
+    requires two { IsReady [] (T.state two.old) }
+    ensures one { IsReady [] (S.state one.new) }
+    ensures two { IsReady [] (T.state two.new) }
 {
     let Some((call, wanted)) = row.split_once(" => ") else {
         return is_made(rt, letter, row);
@@ -101,10 +102,10 @@ fn first_wrong<'a, R: Files, S: Storage, T: Storage>(
     two: &mut T,
     table: &'a str,
 ) -> Option<&'a str>
-    requires one { IsAtRest (S.state one.old) }
-    requires two { IsAtRest (T.state two.old) }
-    ensures one { IsAtRest (S.state one.new) }
-    ensures two { IsAtRest (T.state two.new) }
+    requires one { IsReady [] (S.state one.old) }
+    requires two { IsReady [] (T.state two.old) }
+    ensures one { IsReady [] (S.state one.new) }
+    ensures two { IsReady [] (T.state two.new) }
 {
     for row in table.split('\n') {
         if is_right(rt, alloc, letter, one, two, row) != Some(true) {
@@ -271,8 +272,8 @@ fn a_link_that_is_planted_between_two_uploads_isnt_followed(rt: HostRuntime) {
 
 // Uploads the objects of a text up to the first that is refused, and answers how many could be.
 fn count_uploads<S: Storage>(alloc: Global, store: &mut S, text: &str) -> u32
-    requires { IsAtRest (S.state store.old) }
-    ensures { IsAtRest (S.state store.new) }
+    requires { IsReady [] (S.state store.old) }
+    ensures { IsReady [] (S.state store.new) }
 {
     let mut count = 0u32;
     for path in text.split(' ') {

@@ -1,5 +1,7 @@
-// The calls of a storage, as rows have them. It is at rest before and after each.
-ghost use Rattle.med_outside.specs.State.{IsAtRest};
+// The calls of a storage, as rows have them. It is at rest before and after each, under the layout
+// with nothing before its paths. A put or a get of a data object is told as failed and isn't made.
+ghost use Rattle.std.specs.Prelude.{[]};
+ghost use Rattle.med_outside.specs.State.{IsReady};
 
 use crate::pages::are_pages;
 use crate::uploads::{is_dropped, is_uploaded};
@@ -21,24 +23,30 @@ pub fn is_number(alloc: Global, number: u64, wanted: &str) -> Option<bool> {
 }
 
 pub fn put<S: Storage>(alloc: Global, store: &mut S, path: &str, text: &str) -> Result<u64, Denied>
-    requires { IsAtRest (S.state store.old) }
-    ensures { IsAtRest (S.state store.new) }
+    requires { IsReady [] (S.state store.old) }
+    ensures { IsReady [] (S.state store.new) }
 {
     let path = ObjPath::of(alloc, path)?;
+    if Layout::plain(alloc).is_data(&path) {
+        return Err(Denied::Failed);
+    }
     store.put(alloc, &path, text.as_bytes())
 }
 
 fn get<S: Storage>(alloc: Global, store: &mut S, path: &str) -> Result<Option<Vec<u8>>, Denied>
-    requires { IsAtRest (S.state store.old) }
-    ensures { IsAtRest (S.state store.new) }
+    requires { IsReady [] (S.state store.old) }
+    ensures { IsReady [] (S.state store.new) }
 {
     let path = ObjPath::of(alloc, path)?;
+    if Layout::plain(alloc).is_data(&path) {
+        return Err(Denied::Failed);
+    }
     store.get(alloc, &path)
 }
 
 fn stat<S: Storage>(alloc: Global, store: &mut S, path: &str) -> Result<Option<Stat>, Denied>
-    requires { IsAtRest (S.state store.old) }
-    ensures { IsAtRest (S.state store.new) }
+    requires { IsReady [] (S.state store.old) }
+    ensures { IsReady [] (S.state store.new) }
 {
     let path = ObjPath::of(alloc, path)?;
     store.stat(alloc, &path)
@@ -50,16 +58,16 @@ fn get_piece<S: Storage>(
     path: &str,
     from: u64,
 ) -> Result<Option<Piece>, Denied>
-    requires { IsAtRest (S.state store.old) }
-    ensures { IsAtRest (S.state store.new) }
+    requires { IsReady [] (S.state store.old) }
+    ensures { IsReady [] (S.state store.new) }
 {
     let path = ObjPath::of(alloc, path)?;
     store.get_piece(alloc, &path, from)
 }
 
 fn delete<S: Storage>(alloc: Global, store: &mut S, path: &str) -> Result<(), Denied>
-    requires { IsAtRest (S.state store.old) }
-    ensures { IsAtRest (S.state store.new) }
+    requires { IsReady [] (S.state store.old) }
+    ensures { IsReady [] (S.state store.new) }
 {
     let path = ObjPath::of(alloc, path)?;
     store.delete(alloc, &path)
@@ -67,16 +75,16 @@ fn delete<S: Storage>(alloc: Global, store: &mut S, path: &str) -> Result<(), De
 
 /// The first page of a listing, which is all of it where there are at most 1,000 entries.
 pub fn list<S: Storage>(alloc: Global, store: &mut S, under: &str) -> Result<Vec<Entry>, Denied>
-    requires { IsAtRest (S.state store.old) }
-    ensures { IsAtRest (S.state store.new) }
+    requires { IsReady [] (S.state store.old) }
+    ensures { IsReady [] (S.state store.new) }
 {
     let page = store.list_page(alloc, under, None)?;
     Ok(page.entries)
 }
 
 fn open<S: Storage>(alloc: Global, store: &mut S, base: &str, bucket: &str) -> Result<(), Denied>
-    requires { IsAtRest (S.state store.old) }
-    ensures { IsAtRest (S.state store.new) }
+    requires { IsReady [] (S.state store.old) }
+    ensures { IsReady [] (S.state store.new) }
 {
     store.open(alloc, base, bucket, &Layout::plain(alloc))
 }
@@ -88,8 +96,8 @@ pub(crate) fn is_dated<S: Storage>(
     path: &str,
     second: u64,
 ) -> Option<bool>
-    requires { IsAtRest (S.state store.old) }
-    ensures { IsAtRest (S.state store.new) }
+    requires { IsReady [] (S.state store.old) }
+    ensures { IsReady [] (S.state store.new) }
 {
     match list(alloc, store, path).ok()?.as_slice() {
         [entry] => Some(entry.second == second),
@@ -99,8 +107,8 @@ pub(crate) fn is_dated<S: Storage>(
 
 // A put answers `done`, a second, `listed` where the entry has that second, or a refusal.
 fn is_put<S: Storage>(alloc: Global, store: &mut S, object: &str, wanted: &str) -> Option<bool>
-    requires { IsAtRest (S.state store.old) }
-    ensures { IsAtRest (S.state store.new) }
+    requires { IsReady [] (S.state store.old) }
+    ensures { IsReady [] (S.state store.new) }
 {
     let (path, text) = object.split_once('=')?;
     match put(alloc, store, path, text) {
@@ -113,8 +121,8 @@ fn is_put<S: Storage>(alloc: Global, store: &mut S, object: &str, wanted: &str) 
 
 // An object's bytes, `absent`, or a refusal.
 fn is_got<S: Storage>(alloc: Global, store: &mut S, path: &str, wanted: &str) -> Option<bool>
-    requires { IsAtRest (S.state store.old) }
-    ensures { IsAtRest (S.state store.new) }
+    requires { IsReady [] (S.state store.old) }
+    ensures { IsReady [] (S.state store.new) }
 {
     match get(alloc, store, path) {
         Ok(Some(bytes)) => Some(bytes.as_slice() == wanted.as_bytes()),
@@ -125,8 +133,8 @@ fn is_got<S: Storage>(alloc: Global, store: &mut S, path: &str, wanted: &str) ->
 
 /// Whether the object is the first that is listed under its path, with that size and second.
 pub fn is_listed<S: Storage>(alloc: Global, store: &mut S, path: &str, stat: &Stat) -> Option<bool>
-    requires { IsAtRest (S.state store.old) }
-    ensures { IsAtRest (S.state store.new) }
+    requires { IsReady [] (S.state store.old) }
+    ensures { IsReady [] (S.state store.new) }
 {
     match list(alloc, store, path).ok()?.as_slice() {
         [entry, ..] => Some(
@@ -141,8 +149,8 @@ pub fn is_listed<S: Storage>(alloc: Global, store: &mut S, path: &str, stat: &St
 // The bytes whose fingerprint is told, `absent`, or a refusal. The listing has the size and the
 // second that are told.
 fn is_looked_at<S: Storage>(alloc: Global, store: &mut S, path: &str, wanted: &str) -> Option<bool>
-    requires { IsAtRest (S.state store.old) }
-    ensures { IsAtRest (S.state store.new) }
+    requires { IsReady [] (S.state store.old) }
+    ensures { IsReady [] (S.state store.new) }
 {
     match stat(alloc, store, path) {
         Ok(Some(stat)) => {
@@ -156,8 +164,8 @@ fn is_looked_at<S: Storage>(alloc: Global, store: &mut S, path: &str, wanted: &s
 
 // What `get` and `stat` answer.
 fn is_object<S: Storage>(alloc: Global, store: &mut S, path: &str, wanted: &str) -> Option<bool>
-    requires { IsAtRest (S.state store.old) }
-    ensures { IsAtRest (S.state store.new) }
+    requires { IsReady [] (S.state store.old) }
+    ensures { IsReady [] (S.state store.new) }
 {
     let is_got = is_got(alloc, store, path, wanted)?;
     Some(is_got && is_looked_at(alloc, store, path, wanted)?)
@@ -165,8 +173,8 @@ fn is_object<S: Storage>(alloc: Global, store: &mut S, path: &str, wanted: &str)
 
 // The digest that `stat` tells, in hexadecimal digits.
 fn is_digest<S: Storage>(alloc: Global, store: &mut S, path: &str, wanted: &str) -> Option<bool>
-    requires { IsAtRest (S.state store.old) }
-    ensures { IsAtRest (S.state store.new) }
+    requires { IsReady [] (S.state store.old) }
+    ensures { IsReady [] (S.state store.new) }
 {
     let stat = stat(alloc, store, path).ok()??;
     Some(md5_text(alloc, &stat.fingerprint.md5).ok()?.as_str() == wanted)
@@ -174,8 +182,8 @@ fn is_digest<S: Storage>(alloc: Global, store: &mut S, path: &str, wanted: &str)
 
 // The bytes of an object from a place on, `nothing` where there are none, `absent`, or a refusal.
 fn is_piece<S: Storage>(alloc: Global, store: &mut S, place: &str, wanted: &str) -> Option<bool>
-    requires { IsAtRest (S.state store.old) }
-    ensures { IsAtRest (S.state store.new) }
+    requires { IsReady [] (S.state store.old) }
+    ensures { IsReady [] (S.state store.new) }
 {
     let (path, from) = place.split_once(' ')?;
     match get_piece(alloc, store, path, from.parse::<u64>().ok()?) {
@@ -188,8 +196,8 @@ fn is_piece<S: Storage>(alloc: Global, store: &mut S, place: &str, wanted: &str)
 
 // Room for so many changes answers `done`, or `memory`.
 fn is_roomy<S: Storage>(alloc: Global, store: &mut S, changes: &str, wanted: &str) -> Option<bool>
-    requires { IsAtRest (S.state store.old) }
-    ensures { IsAtRest (S.state store.new) }
+    requires { IsReady [] (S.state store.old) }
+    ensures { IsReady [] (S.state store.new) }
 {
     match store.make_room(alloc, changes.parse::<u64>().ok()?) {
         Ok(()) => Some(wanted == "done"),
@@ -199,8 +207,8 @@ fn is_roomy<S: Storage>(alloc: Global, store: &mut S, changes: &str, wanted: &st
 
 // A delete answers `done`, or a refusal.
 fn is_deleted<S: Storage>(alloc: Global, store: &mut S, path: &str, wanted: &str) -> Option<bool>
-    requires { IsAtRest (S.state store.old) }
-    ensures { IsAtRest (S.state store.new) }
+    requires { IsReady [] (S.state store.old) }
+    ensures { IsReady [] (S.state store.new) }
 {
     match delete(alloc, store, path) {
         Ok(()) => Some(wanted == "done"),
@@ -232,8 +240,8 @@ fn is_list<S: Storage>(
     is_size: bool,
     wanted: &str,
 ) -> Option<bool>
-    requires { IsAtRest (S.state store.old) }
-    ensures { IsAtRest (S.state store.new) }
+    requires { IsReady [] (S.state store.old) }
+    ensures { IsReady [] (S.state store.new) }
 {
     match list(alloc, store, under) {
         Ok(entries) if entries.is_empty() => Some(wanted == "nothing"),
@@ -246,8 +254,8 @@ fn is_list<S: Storage>(
 }
 
 fn is_opened<S: Storage>(alloc: Global, store: &mut S, bucket: &str, wanted: &str) -> Option<bool>
-    requires { IsAtRest (S.state store.old) }
-    ensures { IsAtRest (S.state store.new) }
+    requires { IsReady [] (S.state store.old) }
+    ensures { IsReady [] (S.state store.new) }
 {
     let (base, bucket) = bucket.split_once('/')?;
     match open(alloc, store, base, bucket) {
@@ -266,8 +274,8 @@ pub fn is_answered<S: Storage>(
     call: &str,
     wanted: &str,
 ) -> Option<bool>
-    requires { IsAtRest (S.state store.old) }
-    ensures { IsAtRest (S.state store.new) }
+    requires { IsReady [] (S.state store.old) }
+    ensures { IsReady [] (S.state store.new) }
 {
     let (word, rest) = call.split_once(' ').unwrap_or((call, ""));
     match word {
@@ -291,8 +299,8 @@ pub fn is_answered<S: Storage>(
 }
 
 fn is_right<S: Storage>(alloc: Global, store: &mut S, row: &str) -> Option<bool>
-    requires { IsAtRest (S.state store.old) }
-    ensures { IsAtRest (S.state store.new) }
+    requires { IsReady [] (S.state store.old) }
+    ensures { IsReady [] (S.state store.new) }
 {
     let (call, wanted) = row.split_once(" => ")?;
     is_answered(alloc, store, call, wanted)
@@ -300,8 +308,8 @@ fn is_right<S: Storage>(alloc: Global, store: &mut S, row: &str) -> Option<bool>
 
 /// The first row that the storage answers otherwise.
 pub fn first_wrong<'a, S: Storage>(alloc: Global, store: &mut S, table: &'a str) -> Option<&'a str>
-    requires { IsAtRest (S.state store.old) }
-    ensures { IsAtRest (S.state store.new) }
+    requires { IsReady [] (S.state store.old) }
+    ensures { IsReady [] (S.state store.new) }
 {
     for row in table.split('\n') {
         if is_right(alloc, store, row) != Some(true) {

@@ -1,7 +1,7 @@
 // Listings in pages, as rows have them.
-ghost use Rattle.std.specs.Prelude.{IfSome};
+ghost use Rattle.std.specs.Prelude.{IfSome, []};
 ghost use Rattle.med_outside.specs.Pages.{CountsRight, shown};
-ghost use Rattle.med_outside.specs.State.{IsAtRest};
+ghost use Rattle.med_outside.specs.State.{IsReady};
 
 use crate::calls::refusal;
 use med_outside::{Page, PageEnd, Storage};
@@ -31,9 +31,9 @@ fn append_page<S: Storage>(
     under: &str,
     after: Option<&PageEnd>,
 ) -> Option<Option<PageEnd>>
-    requires rest { IsAtRest (S.state store.old) }
+    requires rest { IsReady [] (S.state store.old) }
     requires left { CountsRight under.now (shown after) (S.state store.old).content }
-    ensures rest { IsAtRest (S.state store.new) }
+    ensures rest { IsReady [] (S.state store.new) }
     ensures left { IfSome result (λ end. CountsRight under.now end (S.state store.new).content) }
 {
     match store.list_page(alloc, under, after) {
@@ -50,8 +50,8 @@ fn append_page<S: Storage>(
 
 // All pages under a text, of which there are at most a hundred.
 fn pages_text<S: Storage>(alloc: Global, store: &mut S, under: &str) -> Option<String>
-    requires { IsAtRest (S.state store.old) }
-    ensures { IsAtRest (S.state store.new) }
+    requires { IsReady [] (S.state store.old) }
+    ensures { IsReady [] (S.state store.new) }
 {
     let mut text = String::new(alloc);
     let mut end = append_page(alloc, store, &mut text, under, None)?;
@@ -71,8 +71,8 @@ pub(crate) fn are_pages<S: Storage>(
     under: &str,
     wanted: &str,
 ) -> Option<bool>
-    requires { IsAtRest (S.state store.old) }
-    ensures { IsAtRest (S.state store.new) }
+    requires { IsReady [] (S.state store.old) }
+    ensures { IsReady [] (S.state store.new) }
 {
     Some(pages_text(alloc, store, under)?.as_str() == wanted)
 }

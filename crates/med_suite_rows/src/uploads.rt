@@ -1,6 +1,6 @@
 // Uploads, as rows have them.
 ghost use Rattle.std.specs.Prelude.{◌≡◌, [], is_some, IsTrue, OnOk, OnErr};
-ghost use Rattle.med_outside.specs.State.{IsAtRest};
+ghost use Rattle.med_outside.specs.State.{IsReady};
 
 use crate::calls::{is_dated, is_number, refusal};
 use med_base::{NoMemory, ObjPath};
@@ -16,10 +16,10 @@ fn piece_of(alloc: Global, bytes: &[u8]) -> Result<Piece, NoMemory> {
 }
 
 fn begin<S: Storage>(alloc: Global, store: &mut S, path: &str) -> Result<(), Denied>
-    requires { IsAtRest (S.state store.old) }
+    requires { IsReady [] (S.state store.old) }
     ensures ok { OnOk result ((S.state store.new).terms.lent ≡ []) }
     ensures upload { OnOk result (IsTrue (is_some (S.state store.new).upload)) }
-    ensures err { OnErr result (IsAtRest (S.state store.new)) }
+    ensures err { OnErr result (IsReady [] (S.state store.new)) }
 {
     let path = ObjPath::of(alloc, path)?;
     store.begin(alloc, &path)
@@ -30,7 +30,7 @@ fn append<S: Storage>(alloc: Global, store: &mut S, text: &str) -> Result<(), De
     requires upload { IsTrue (is_some (S.state store.old).upload) }
     ensures ok { OnOk result ((S.state store.new).terms.lent ≡ []) }
     ensures upload { OnOk result (IsTrue (is_some (S.state store.new).upload)) }
-    ensures err { OnErr result (IsAtRest (S.state store.new)) }
+    ensures err { OnErr result (IsReady [] (S.state store.new)) }
 {
     match piece_of(alloc, text.as_bytes()) {
         Ok(piece) => store.append(alloc, &piece),
@@ -43,10 +43,10 @@ fn append<S: Storage>(alloc: Global, store: &mut S, text: &str) -> Result<(), De
 
 // Begins an upload, and appends a text in pieces, which a bar divides.
 fn upload<S: Storage>(alloc: Global, store: &mut S, path: &str, text: &str) -> Result<(), Denied>
-    requires { IsAtRest (S.state store.old) }
+    requires { IsReady [] (S.state store.old) }
     ensures ok { OnOk result ((S.state store.new).terms.lent ≡ []) }
     ensures upload { OnOk result (IsTrue (is_some (S.state store.new).upload)) }
-    ensures err { OnErr result (IsAtRest (S.state store.new)) }
+    ensures err { OnErr result (IsReady [] (S.state store.new)) }
 {
     begin(alloc, store, path)?;
     for piece in text.split('|') {
@@ -56,8 +56,8 @@ fn upload<S: Storage>(alloc: Global, store: &mut S, path: &str, text: &str) -> R
 }
 
 fn commit<S: Storage>(alloc: Global, store: &mut S, path: &str, text: &str) -> Result<u64, Denied>
-    requires { IsAtRest (S.state store.old) }
-    ensures { IsAtRest (S.state store.new) }
+    requires { IsReady [] (S.state store.old) }
+    ensures { IsReady [] (S.state store.new) }
 {
     upload(alloc, store, path, text)?;
     store.commit(alloc)
@@ -71,8 +71,8 @@ pub(crate) fn is_uploaded<S: Storage>(
     object: &str,
     wanted: &str,
 ) -> Option<bool>
-    requires { IsAtRest (S.state store.old) }
-    ensures { IsAtRest (S.state store.new) }
+    requires { IsReady [] (S.state store.old) }
+    ensures { IsReady [] (S.state store.new) }
 {
     let (path, text) = object.split_once('=')?;
     match commit(alloc, store, path, text) {
@@ -89,8 +89,8 @@ pub(crate) fn is_dropped<S: Storage>(
     object: &str,
     wanted: &str,
 ) -> Option<bool>
-    requires { IsAtRest (S.state store.old) }
-    ensures { IsAtRest (S.state store.new) }
+    requires { IsReady [] (S.state store.old) }
+    ensures { IsReady [] (S.state store.new) }
 {
     let (path, text) = object.split_once('=')?;
     match upload(alloc, store, path, text) {

@@ -1,8 +1,9 @@
-use Rattle.med_outside.specs.State.{IsAtRest}
+use Rattle.std.proofs.Common.{[]}
+use Rattle.med_outside.specs.State.{IsReady}
 use Rattle.med_suite_rows.proofs.rows.first_wrong.Given as goal
 
 abbrev pub invariant-loop-row : goal.invariant-loop-row
 invariant-loop-row g l =
     (goal.iterator-loop-row g).can_next l.row-iterator
     × (goal.iterator-loop-row g).is_finite l.row-iterator
-    × IsAtRest (g.S.Storage.state l.store)
+    × IsReady [] (g.S.Storage.state l.store)
