@@ -10,6 +10,7 @@ use Rattle.std.specs.FinMap.{entries, entries_sorted}
 use Rattle.std.specs.FinMap.Entries.{is_sorted, below_all, is_sorted-where_key}
 use Rattle.std.proofs.lemmas.List.{take-append-drop, length-drop}
 use Rattle.med_base.specs.Content.{Content, Object, is_under, objects_under}
+use Rattle.med_base.specs.Effects.{after_all}
 use Rattle.med_outside.specs.Storage.{entry_of, listing}
 use Rattle.med_outside.specs.Pages.{page_size, page_end, last_path, is_behind, behind, IsPage, CountsRight}
 use Rattle.med_outside.specs.declared.storage.Entry.{Entry}
@@ -310,3 +311,15 @@ none_before text c = go (listing text c)
     go : (es : List Entry) → filter (λ (e : Entry). is_behind None e.path) es ≡ es
     go [] = refl
     go (e ∷ es) = ap (λ l. e ∷ l) (go es)
+
+-- the same over what is told, as long as the objects stay
+pub counts_next : (text : List ℕ) (after : Option PageEnd) (old new : Option Content)
+    (page : Page) → new ≡ after_all [] old → IfSome old (λ c. IsPage text after c page)
+    → CountsRight text page.end new
+counts_next text after old new page same is =
+    subst (λ (told : Option Content). CountsRight text page.end told) (sym same) (go old is)
+  where
+    go : (old : Option Content) → IfSome old (λ c. IsPage text after c page)
+        → CountsRight text page.end (after_all [] old)
+    go None is = tt
+    go (Some c) is = next_counts text after c page is

@@ -18,6 +18,7 @@ fn piece_of(alloc: Global, bytes: &[u8]) -> Result<Piece, NoMemory> {
 fn begin<S: Storage>(alloc: Global, store: &mut S, path: &str) -> Result<(), Denied>
     requires { IsReady [] (S.state store.old) }
     ensures ok { OnOk result ((S.state store.new).terms.lent ≡ []) }
+    ensures layout { OnOk result ((S.state store.new).terms.bucket.layout ≡ []) }
     ensures upload { OnOk result (IsTrue (is_some (S.state store.new).upload)) }
     ensures err { OnErr result (IsReady [] (S.state store.new)) }
 {
@@ -27,8 +28,10 @@ fn begin<S: Storage>(alloc: Global, store: &mut S, path: &str) -> Result<(), Den
 
 fn append<S: Storage>(alloc: Global, store: &mut S, text: &str) -> Result<(), Denied>
     requires rest { (S.state store.old).terms.lent ≡ [] }
+    requires layout { (S.state store.old).terms.bucket.layout ≡ [] }
     requires upload { IsTrue (is_some (S.state store.old).upload) }
     ensures ok { OnOk result ((S.state store.new).terms.lent ≡ []) }
+    ensures layout { OnOk result ((S.state store.new).terms.bucket.layout ≡ []) }
     ensures upload { OnOk result (IsTrue (is_some (S.state store.new).upload)) }
     ensures err { OnErr result (IsReady [] (S.state store.new)) }
 {
@@ -45,6 +48,7 @@ fn append<S: Storage>(alloc: Global, store: &mut S, text: &str) -> Result<(), De
 fn upload<S: Storage>(alloc: Global, store: &mut S, path: &str, text: &str) -> Result<(), Denied>
     requires { IsReady [] (S.state store.old) }
     ensures ok { OnOk result ((S.state store.new).terms.lent ≡ []) }
+    ensures layout { OnOk result ((S.state store.new).terms.bucket.layout ≡ []) }
     ensures upload { OnOk result (IsTrue (is_some (S.state store.new).upload)) }
     ensures err { OnErr result (IsReady [] (S.state store.new)) }
 {

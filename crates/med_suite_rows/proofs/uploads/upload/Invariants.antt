@@ -6,4 +6,5 @@ invariant-loop-piece g l =
     (goal.iterator-loop-piece g).can_next l.piece-iterator
     × (goal.iterator-loop-piece g).is_finite l.piece-iterator
     × ((g.S.Storage.state l.store).terms.lent ≡ [])
+    × ((g.S.Storage.state l.store).terms.bucket.layout ≡ [])
     × IsTrue (is_some (g.S.Storage.state l.store).upload)
