@@ -10,7 +10,8 @@ abbrev pub start_puts : (before f n : List ℕ) (is_differential : Bool) (ring :
 start_puts before f n is_differential ring started seconds =
     Stores (entry_path before f n Tokenmap) ring (seconds 0)
     ∷ Stores (entry_path before f n (Started started)) [] (seconds 1)
-    ∷ (if is_differential then Stores (entry_path before f n Differential) [] (seconds 2) ∷ [] else [])
+    ∷ (if is_differential
+    then Stores (entry_path before f n Differential) [] (seconds 2) ∷ [] else [])
 
 -- a backup finished at this second, with this manifest
 abbrev pub finish_puts : (before f n manifest : List ℕ) (finished : ℕ) (seconds : ℕ → ℕ)

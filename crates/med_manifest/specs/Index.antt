@@ -1,9 +1,8 @@
 -- What the backups of a node give to its index, and when the index says just that.
 -- This project's own; after the entries that Cassandra Medusa keeps of its backups.
-use Rattle.std.specs.Prelude.{◌≡◌, ◌==◌, ℕ, nat_lt, List, [], Option, Some, None, option_map, if◌then◌else◌, bytes_eq}
+use Rattle.std.specs.Prelude.{◌≡◌, ◌==◌, ℕ, nat_lt, List, [], Option, Some, None, if◌then◌else◌, bytes_eq}
 use Rattle.std.specs.Cmp.Lexicographic.{slice_cmp}
 use Rattle.std.specs.FinMap.{FinMap, get}
-use Rattle.std.specs.Option.{option_or}
 use Rattle.std.specs.Ordering.{nat_cmp}
 use Rattle.med_base.specs.declared.kinds.IndexKind.{IndexKind}
 use Rattle.med_base.specs.declared.kinds.IndexKind.TheVariants as entry
@@ -21,10 +20,12 @@ use Rattle.med_manifest.specs.Vault.{IsFinished}
 abbrev pub meta_in : List ℕ → Content → List ℕ → List ℕ → MetaKind → Option Object
 meta_in before c f n kind = get c (meta_path before f n kind)
 
+-- the bytes of the object, if it stands
 abbrev pub bytes_in : Option Object → Option (List ℕ)
 bytes_in None = None
 bytes_in (Some o) = Some o.bytes
 
+-- the second of the object, if it stands
 abbrev pub second_in : Option Object → Option ℕ
 second_in None = None
 second_in (Some o) = Some o.second
@@ -47,6 +48,7 @@ started_by schema marker ring manifest =
     or_second (second_in schema)
     (earlier (second_in marker) (earlier (second_in ring) (second_in manifest)))
 
+-- when the backup started, if one of its four objects stands
 abbrev pub started : List ℕ → Content → List ℕ → List ℕ → Option ℕ
 started before c f n =
     started_by (meta_in before c f n Schema) (meta_in before c f n Differential)

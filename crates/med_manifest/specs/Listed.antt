@@ -14,6 +14,10 @@ paths_of before c test = keys (retain_keys c (λ path. test (kind_of before path
 abbrev pub if_stands : Content → List ℕ → List (List ℕ)
 if_stands c path = if contains_key c path then path ∷ [] else []
 
+-- the object under the path is removed, if there is one
+abbrev pub remove_if_stands : Content → List ℕ → List Effect
+remove_if_stands c path = if contains_key c path then Removes path ∷ [] else []
+
 -- each of these is removed
 abbrev pub removes : List (List ℕ) → List Effect
 removes paths = map (λ path. Removes path) paths

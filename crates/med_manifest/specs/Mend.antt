@@ -12,12 +12,13 @@ use Rattle.med_base.specs.Content.{Content, Object}
 use Rattle.med_base.specs.Effects.{Effect, Stores}
 use Rattle.med_base.specs.Kinds.{Kind, Meta}
 use Rattle.med_base.specs.Layout.{meta_path, latest_path}
-use Rattle.med_manifest.specs.Listed.{paths_of, if_stands, removes}
+use Rattle.med_manifest.specs.Listed.{paths_of, remove_if_stands}
 
 -- a second and a name are after others: in order of seconds, then of names
 abbrev pub is_later : ℕ × List ℕ → ℕ × List ℕ → Bool
 is_later a b = is_gt (ordering_then (nat_cmp a.0 b.0) (slice_cmp nat_cmp a.1 b.1))
 
+-- the later of one and another, where there is another
 abbrev pub later_of : ℕ × List ℕ → Option (ℕ × List ℕ) → ℕ × List ℕ
 later_of a None = a
 later_of a (Some b) = if is_later b a then b else a
@@ -37,6 +38,7 @@ abbrev pub name_in : Kind → List ℕ
 name_in (Meta f n kind) = n
 name_in _ = []
 
+-- the second of the object, if it stands
 abbrev pub second_or_zero : Option Object → ℕ
 second_or_zero None = 0
 second_or_zero (Some o) = o.second
@@ -50,6 +52,7 @@ abbrev pub newest : List ℕ → Content → List ℕ → List (List ℕ) → Op
 newest before c f names =
     latest_of (map (finished_at before c) (paths_of before c (is_manifest_outside f names)))
 
+-- the object stands and has these bytes
 abbrev pub has_bytes : Option Object → List ℕ → Bool
 has_bytes None bytes = false
 has_bytes (Some o) bytes = bytes_eq o.bytes bytes
@@ -61,15 +64,15 @@ put_unless c path bytes second =
 
 -- the latest token map becomes that of a backup: it goes where the backup has none
 abbrev pub mend_tokenmap : List ℕ → Content → List ℕ → Option Object → ℕ → List Effect
-mend_tokenmap before c f None second = removes (if_stands c (latest_path before f latest.Tokenmap))
+mend_tokenmap before c f None second = remove_if_stands c (latest_path before f latest.Tokenmap)
 mend_tokenmap before c f (Some o) second =
     put_unless c (latest_path before f latest.Tokenmap) o.bytes second
 
 -- the latest entry becomes that of this backup
 abbrev pub mend_to : List ℕ → Content → List ℕ → Option (ℕ × List ℕ) → (ℕ → ℕ) → List Effect
 mend_to before c f None seconds =
-    removes (if_stands c (latest_path before f latest.Name))
-    ++ removes (if_stands c (latest_path before f latest.Tokenmap))
+    remove_if_stands c (latest_path before f latest.Name)
+    ++ remove_if_stands c (latest_path before f latest.Tokenmap)
 mend_to before c f (Some newest) seconds =
     put_unless c (latest_path before f latest.Name) newest.1 (seconds 0)
     ++ mend_tokenmap before c f (get c (meta_path before f newest.1 Tokenmap)) (seconds 1)
