@@ -1,0 +1,17 @@
+pub mod Afters
+pub mod Indexes
+pub mod Joined
+pub mod Kept
+pub mod Law
+pub mod Lists
+pub mod Mends
+pub mod Parts
+pub mod Places
+pub mod Refusals
+pub mod Removals
+pub mod Removes
+pub mod SafeByKind
+pub mod Sections
+pub mod Steps
+pub mod Stores
+pub mod Totals

@@ -1,5 +1,5 @@
 -- What a removal leaves.
-use Rattle.std.specs.Prelude.{◌≡◌, ◌+◌, ◌*◌, ◌<◌, ℕ, Bool, false, not, ◌&&◌, List, Some, None, Option, Contains, bytes_eq}
+use Rattle.std.specs.Prelude.{◌≡◌, ◌+◌, ◌*◌, ◌<◌, ℕ, Bool, false, not, ◌&&◌, List, Some, None, Contains, bytes_eq}
 use Rattle.std.specs.FinMap.{get, retain_keys}
 use Rattle.std.specs.List.{list_any}
 use Rattle.med_base.specs.Classify.{kind_of}
@@ -46,7 +46,7 @@ is_removed c f names named grace now path (Entry g n kind) =
     bytes_eq g f && list_any (bytes_eq n) names
 is_removed c f names named grace now path (Shared g key) =
     bytes_eq g f
-    && (not (list_any (bytes_eq path) named) && is_old grace now (get c path))
+    && (not (list_any (bytes_eq path) named) && is_old (get c path) grace now)
 is_removed c f names named grace now path _ = false
 
 -- the mended content without what goes

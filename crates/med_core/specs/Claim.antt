@@ -11,6 +11,7 @@ abbrev pub changes_of_claim : (before f n : List ℕ) (is_differential : Bool) (
     (seconds : ℕ → ℕ) → List Effect
 changes_of_claim before f n is_differential schema ring seconds =
     Stores (meta_path before f n Schema) schema (seconds 0)
-    ∷ ((if is_differential then Stores (meta_path before f n Differential) [] (seconds 1) ∷ [] else [])
+    ∷ ((if is_differential
+    then Stores (meta_path before f n Differential) [] (seconds 1) ∷ [] else [])
     ++ Stores (meta_path before f n Tokenmap) ring (seconds 2)
     ∷ start_puts before f n is_differential ring (seconds 0) (λ i. seconds (3 + i)))

@@ -29,9 +29,11 @@ pub record Fresh : Type 0 where
   pub bytes : FileKey → List ℕ
   pub second : FileKey → ℕ
 
+-- one more record that stays
 abbrev pub with_record : FileRecord → Checked → Checked
 with_record r rest = record { changes = rest.changes; files = r ∷ rest.files }
 
+-- one more file that is placed again, before the others
 abbrev pub with_placing : Placing → Checked → Checked
 with_placing p rest =
     record { changes = p.changes ++ rest.changes; files = p.file ∷ rest.files }
@@ -59,8 +61,8 @@ manifest_puts before f n manifest seconds =
     Stores (meta_path before f n Manifest) manifest (seconds 0)
     ∷ finish_puts before f n manifest (seconds 0) (λ i. seconds (1 + i))
 
--- these records were looked at, and this is the text of their manifest; the mend is over the content
--- that the puts before it leave
+-- these records were looked at, and this is the text of their manifest; the mend is over what the
+-- puts before it leave
 abbrev pub changes_of_finish : (before f n : List ℕ) → Content → Checked → (manifest : List ℕ)
     (of_puts of_mend : ℕ → ℕ) → List Effect
 changes_of_finish before f n c found manifest of_puts of_mend =

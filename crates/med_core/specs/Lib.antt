@@ -1,5 +1,6 @@
 pub mod After
 pub mod Claim
+pub mod Counts
 pub mod Exact
 pub mod Finish
 pub mod Outside

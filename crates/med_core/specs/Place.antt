@@ -14,12 +14,14 @@ pub record Placing : Type 0 where
   pub changes : List Effect
   pub file : FileRecord
 
+-- the two have one size and one MD5
 abbrev pub is_same_print : Fingerprint → Fingerprint → Bool
 is_same_print a b = (a.size == b.size) && bytes_eq a.md5 b.md5
 
 -- the file is stored as a shared one
-abbrev pub stored : (before f : List ℕ) (key : FileKey) (bytes : List ℕ) (second : ℕ) → Placing
-stored before f key bytes second = record {
+abbrev pub stored_shared : (before f : List ℕ) (key : FileKey) (bytes : List ℕ) (second : ℕ)
+    → Placing
+stored_shared before f key bytes second = record {
   changes = Stores (shared_path before f key) bytes second ∷ [];
   file = record {
     key = key;
@@ -29,9 +31,9 @@ stored before f key bytes second = record {
 }
 
 -- the file is stored as the backup's own
-abbrev pub stored_aside : (before f n : List ℕ) (key : FileKey) (bytes : List ℕ) (second : ℕ)
+abbrev pub stored_own : (before f n : List ℕ) (key : FileKey) (bytes : List ℕ) (second : ℕ)
     → Placing
-stored_aside before f n key bytes second = record {
+stored_own before f n key bytes second = record {
   changes = Stores (own_path before f n key) bytes second ∷ [];
   file = record {
     key = key;
@@ -54,14 +56,14 @@ reused before f key bytes = record {
 -- by what stands under the shared path: nothing, a file with this fingerprint, or another one
 abbrev pub placing_over : (before f n : List ℕ) (key : FileKey) (bytes : List ℕ) (second : ℕ)
     → Option Object → Placing
-placing_over before f n key bytes second None = stored before f key bytes second
+placing_over before f n key bytes second None = stored_shared before f key bytes second
 placing_over before f n key bytes second (Some o) =
     if is_same_print (fingerprint_of o.bytes) (fingerprint_of bytes)
-    then reused before f key bytes else stored_aside before f n key bytes second
+    then reused before f key bytes else stored_own before f n key bytes second
 
 -- a place in a differential backup, and in a full one; `second` is that of the put
 abbrev pub placing : (before f n : List ℕ) (is_differential : Bool) (key : FileKey)
     (bytes : List ℕ) (second : ℕ) → Content → Placing
 placing before f n true key bytes second c =
     placing_over before f n key bytes second (get c (shared_path before f key))
-placing before f n false key bytes second c = stored_aside before f n key bytes second
+placing before f n false key bytes second c = stored_own before f n key bytes second

@@ -1,5 +1,5 @@
 -- Which paths a call may change.
-use Rattle.std.specs.Prelude.{◌≡◌, ℕ, List, Some, Option, Contains}
+use Rattle.std.specs.Prelude.{◌≡◌, ℕ, List, Some, Contains}
 use Rattle.std.specs.List.{AllByRecursion}
 use Rattle.med_base.specs.Classify.{kind_of}
 use Rattle.med_base.specs.Effects.{Effect, Stores, Removes}
@@ -31,6 +31,7 @@ MayRemove f call (Latest g kind) = g ≡ f
 MayRemove f call (Stray g (Some n)) = (g ≡ f) × Removing call n
 MayRemove f call _ = ⊥
 
+-- the call may make this change
 abbrev pub MayChange : List ℕ → List ℕ → Call → Effect → Type 0
 MayChange before f call (Stores path bytes second) = MayStore f (kind_of before path)
 MayChange before f call (Removes path) = MayRemove f call (kind_of before path)

@@ -35,15 +35,15 @@ paths_of_backup before c f n =
     ++ (if_stands c (meta_path before f n Tokenmap) ++ if_stands c (meta_path before f n Schema)))))
 
 -- the second of the object and so many days of grace are past
-abbrev pub is_old : (grace now : ℕ) → Option Object → Bool
-is_old grace now None = false
-is_old grace now (Some o) = nat_lt (o.second + 86400 * grace) now
+abbrev pub is_old : Option Object → (grace now : ℕ) → Bool
+is_old None grace now = false
+is_old (Some o) grace now = nat_lt (o.second + 86400 * grace) now
 
 -- the old shared files of the node that aren't among the named paths
 abbrev pub old_unnamed : List ℕ → Content → List ℕ → List (List ℕ) → (grace now : ℕ)
     → List (List ℕ)
 old_unnamed before c f named grace now =
-    filter (λ path. not (list_any (bytes_eq path) named) && is_old grace now (get c path))
+    filter (λ path. not (list_any (bytes_eq path) named) && is_old (get c path) grace now)
     (paths_of before c (is_shared_of f))
 
 -- all that goes with these backups

@@ -10,14 +10,17 @@ abbrev pub effects_of : Ending → List Effect → List Effect
 effects_of (Unsure x true) changes = changes ++ x ∷ []
 effects_of _ changes = changes
 
+-- the changes of an event that took effect
 abbrev pub effects : Event → List Effect
 effects e = effects_of e.ending e.changes
 
-abbrev pub is_backup : List ℕ × List ℕ → List ℕ × List ℕ → Bool
-is_backup a b = bytes_eq a.0 b.0 && bytes_eq a.1 b.1
+-- the two have one node and one name
+abbrev pub is_same_backup : List ℕ × List ℕ → List ℕ × List ℕ → Bool
+is_same_backup a b = bytes_eq a.0 b.0 && bytes_eq a.1 b.1
 
+-- the running names but for one
 abbrev pub without : List ℕ × List ℕ → Running → Running
-without a running = filter (λ b. not (is_backup a b)) running
+without a running = filter (λ b. not (is_same_backup a b)) running
 
 -- the running names after a call: a claim that was done adds its name, a finish and an abandon take
 -- it out, however they end, and a stop leaves none
@@ -28,9 +31,11 @@ running_after running f (Finish n is_differential records) _ = without (f, n) ru
 running_after running f (Abandon n) _ = without (f, n) running
 running_after running f _ _ = running
 
+-- the running names after an event
 abbrev pub next_running : Running → Event → Running
 next_running running e = running_after running e.node e.call e.ending
 
+-- the content after an event
 abbrev pub next_content : Content → Event → Content
 next_content c e = applied (effects e) c
 

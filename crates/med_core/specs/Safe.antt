@@ -25,8 +25,8 @@ pub record IsWholeBackup (before : List ℕ) (c : Content) (f n : List ℕ) : Ty
 abbrev pub AreIndexesSound : List ℕ → Content → Type 0
 AreIndexesSound before c = (f : List ℕ) → IsFqdn f → IsIndexSound before c f
 
--- the backups that are kept are whole, no running name is finished, and where the indexes were sound
--- at the opening they are
+-- the backups that are kept are whole, no running name is finished, and the indexes are sound where
+-- they were at the opening
 pub record IsSafe (before : List ℕ) (opening : Type 0) (c : Content) (running kept : Backups)
     : Type 0
   where
@@ -42,9 +42,16 @@ kept_after before kept (Stores path bytes second) f n =
     kept f n ⊎ (kind_of before path ≡ Meta f n Manifest)
 kept_after before kept (Removes path) f n = kept f n × (kind_of before path ≢ Meta f n Manifest)
 
+-- the backups that are kept after these changes
 abbrev pub kept_after_all : List ℕ → Backups → List Effect → Backups
 kept_after_all before kept [] = kept
 kept_after_all before kept (x ∷ xs) = kept_after_all before (kept_after before kept x) xs
+
+-- no running name is finished
+abbrev pub AreUnfinished : List ℕ → Content → Running → Type 0
+AreUnfinished before c running =
+    (f n : List ℕ) → IsFqdn f → IsBackupName n → Contains running (f, n)
+    → IsFinished c before f n → ⊥
 
 -- so it is before and after each of these changes
 abbrev pub IsSafeAlong : List ℕ → Type 0 → Content → (running kept : Backups) → List Effect → Type 0
@@ -53,21 +60,22 @@ IsSafeAlong before opening c running kept (x ∷ xs) =
     IsSafe before opening c running kept
     × IsSafeAlong before opening (made x c) running (kept_after before kept x) xs
 
-abbrev pub AreRunning : Running → Backups
-AreRunning running f n = Contains running (f, n)
+-- the name of the node is among the running ones
+abbrev pub RunsIn : Running → Backups
+RunsIn running f n = Contains running (f, n)
 
 -- running before and after
-abbrev pub AreRunningThrough : Running → Running → Backups
-AreRunningThrough first then f n = Contains first (f, n) × Contains then (f, n)
+abbrev pub RunsThrough : Running → Running → Backups
+RunsThrough first then f n = Contains first (f, n) × Contains then (f, n)
 
 -- so it is at each moment of a run: between its events and within them, where the running names are
 -- those that run before and after the event
 abbrev pub IsSafeThrough : List ℕ → Type 0 → Content → Running → Backups → List Event → Type 0
 IsSafeThrough before opening c running kept [] =
-    IsSafe before opening c (AreRunning running) kept
+    IsSafe before opening c (RunsIn running) kept
 IsSafeThrough before opening c running kept (e ∷ es) =
-    IsSafe before opening c (AreRunning running) kept
-    × IsSafeAlong before opening c (AreRunningThrough running (next_running running e)) kept
+    IsSafe before opening c (RunsIn running) kept
+    × IsSafeAlong before opening c (RunsThrough running (next_running running e)) kept
     (effects e)
     × IsSafeThrough before opening (next_content c e) (next_running running e)
     (kept_after_all before kept (effects e)) es

@@ -1,8 +1,7 @@
 -- What one call on a node's backups may do: the changes that it makes, and how it ends.
--- This project's own. A section is over the part of its node; no other one of the node comes between.
-use Rattle.std.specs.Prelude.{◌≡◌, ◌≢◌, ◌⊎◌, ◌++◌, ◌<◌, ◌^◌, ℕ, Bool, true, List, [], ◌∷◌, map, Contains}
+-- This project's own. A section is over the part of its node, and none of that node comes between.
+use Rattle.std.specs.Prelude.{◌≡◌, ◌≢◌, ◌⊎◌, ◌++◌, ◌<◌, ◌^◌, ℕ, Bool, List, [], ◌∷◌, map, Contains}
 use Rattle.std.specs.Cmp.Lexicographic.{slice_cmp}
-use Rattle.std.specs.FinMap.{get}
 use Rattle.std.specs.List.{AllByRecursion}
 use Rattle.std.specs.Ordering.{nat_cmp}
 use Rattle.std.specs.declared.cmp.Ordering.TheVariants.{Less}
@@ -28,6 +27,7 @@ use Rattle.med_core.specs.Removal.{changes_of_removal}
 abbrev pub Running : Type 0
 Running = List (List ℕ × List ℕ)
 
+-- a call on the backups of a node, with what it is asked for
 pub data Call : Type 0 where
   -- a backup starts, with its schema and its token map
   Claim : (name : List ℕ) (is_differential : Bool) (schema ring : List ℕ) → Call
@@ -55,6 +55,7 @@ pub data Halt : Type 0 where
   Snap : Halt
   Memory : Halt
 
+-- how a call ended
 pub data Ending : Type 0 where
   Done : Ending
   Refused : (why : Refusal) → Ending
@@ -121,7 +122,7 @@ IsListOf before c running f Rebuild xs =
     × IsGiven before c f entries
     × (xs ≡ changes_of_rebuild before c f entries of_mend of_entries))
 
--- the call has this cause to be refused, and no earlier one
+-- the call has this cause to be refused; that a name is no backup's is a cause of deletions alone
 abbrev pub IsRefusedFor : List ℕ → Content → Running → List ℕ → Call → Refusal → Type 0
 IsRefusedFor before c running f (Claim n is_differential schema ring) IsRunning =
     Contains running (f, n)
@@ -145,16 +146,17 @@ IsLeft (Abandon n) rest = ⊥
 IsLeft _ rest = Unit {0}
 
 -- the changes begin the list of the call, or there is none
-abbrev pub Begin : List ℕ → Content → Running → List ℕ → Call → List Effect → Type 0
-Begin before c running f call xs =
-    (xs ≡ []) ⊎ ((rest : List Effect) × IsLeft call rest × IsListOf before c running f call (xs ++ rest))
+abbrev pub BeginsList : List ℕ → Content → Running → List ℕ → Call → List Effect → Type 0
+BeginsList before c running f call xs =
+    (xs ≡ [])
+    ⊎ ((rest : List Effect) × IsLeft call rest × IsListOf before c running f call (xs ++ rest))
 
 -- the changes were made where the call ended so
 abbrev pub EndsSo : List ℕ → Content → Running → List ℕ → Call → Ending → List Effect → Type 0
 EndsSo before c running f call Done xs = IsListOf before c running f call xs
 EndsSo before c running f call (Refused why) xs =
     (xs ≡ []) × IsRefusedFor before c running f call why
-EndsSo before c running f call (Halted by) xs = Begin before c running f call xs
+EndsSo before c running f call (Halted by) xs = BeginsList before c running f call xs
 EndsSo before c running f call (Unsure x took_effect) xs =
     (rest : List Effect) × IsListOf before c running f call (xs ++ x ∷ rest)
 EndsSo before c running f call Stopped xs =

@@ -1,5 +1,5 @@
 // What holds of every run, and of each call whose whole list was made.
-ghost use Rattle.std.specs.Prelude.{◌≡◌, ◌≢◌, ℕ, List, [], false};
+ghost use Rattle.std.specs.Prelude.{◌≡◌, ◌≢◌, ◌↔◌, ◌+◌, ℕ, List, [], false};
 ghost use Rattle.std.specs.FinMap.{get};
 ghost use Rattle.std.specs.List.{AllByRecursion};
 ghost use Rattle.med_base.specs.declared.kinds.LatestKind.{LatestKind};
@@ -12,12 +12,13 @@ ghost use Rattle.med_manifest.specs.Index.{Entries, IsGiven, IsIndexSound, IsInd
 ghost use Rattle.med_manifest.specs.Mend.{changes_of_mend};
 ghost use Rattle.med_manifest.specs.Rebuild.{changes_of_rebuild, is_entry_of_node};
 ghost use Rattle.med_core.specs.After.{IsAfter, content_after};
+ghost use Rattle.med_core.specs.Counts.{weighed, as_file, as_bytes, removed_files, removed_bytes};
 ghost use Rattle.med_core.specs.Outside.{AreNamedOutside};
 ghost use Rattle.med_core.specs.Reach.{AreWithin};
 ghost use Rattle.med_core.specs.Removal.{changes_of_removal};
-ghost use Rattle.med_core.specs.Run.{IsRun, next_content};
-ghost use Rattle.med_core.specs.Safe.{IsSafeThrough, IsWholeBackup, AreIndexesSound};
-ghost use Rattle.med_core.specs.Section.{Call, Event, Running, IsAsked, IsListOf, IsSection};
+ghost use Rattle.med_core.specs.Run.{IsRun, next_content, next_running, effects};
+ghost use Rattle.med_core.specs.Safe.{IsSafe, IsSafeAlong, IsSafeThrough, IsWholeBackup, AreIndexesSound, AreUnfinished, RunsIn, RunsThrough, kept_after_all};
+ghost use Rattle.med_core.specs.Section.{Call, Event, Running, Refusal, IsNoBackup, IsAsked, IsListOf, IsRefusedFor, IsSection};
 ghost use Rattle.med_core.specs.Exact.{IsBegunWell};
 
 /// A law: every moment of every run is safe. However sections of any nodes follow one another, and
@@ -26,6 +27,29 @@ ghost use Rattle.med_core.specs.Exact.{IsBegunWell};
 pub fn kept_over_runs()
     ensures { (before : List ℕ) (c : Content) (events : List Event) → IsRun before c [] events
         → IsSafeThrough before (AreIndexesSound before c) c [] (IsWholeBackup before c) events }
+{}
+
+/// A law: over any content in which no running name is finished, each moment of a section is safe,
+/// and so is its end. What was whole before it is whole as long as its manifest stands; a backup
+/// whose manifest the section put is whole from then on.
+pub fn sections_keep_whole()
+    ensures moments { (before : List ℕ) (c : Content) (running : Running) (e : Event)
+        → AreUnfinished before c running → IsSection before (node_part before e.node c) running e
+        → IsSafeAlong before (AreIndexesSound before c) c
+        (RunsThrough running (next_running running e)) (IsWholeBackup before c) (effects e) }
+    ensures end { (before : List ℕ) (c : Content) (running : Running) (e : Event)
+        → AreUnfinished before c running → IsSection before (node_part before e.node c) running e
+        → IsSafe before (AreIndexesSound before c) (next_content c e)
+        (RunsIn (next_running running e))
+        (kept_after_all before (IsWholeBackup before c) (effects e)) }
+{}
+
+/// A law: a call that is refused for what it found has no list of changes. Only a deletion of what
+/// is no backup has one, which isn't made.
+pub fn refused_calls_have_no_list()
+    ensures { (before : List ℕ) (c : Content) (running : Running) (f : List ℕ) (call : Call)
+        (why : Refusal) → IsRefusedFor before c running f call why → why ≢ IsNoBackup
+        → (xs : List Effect) → IsListOf before c running f call xs → ⊥ }
 {}
 
 /// A law: a removal whose whole list was made leaves the content without what it names. That is one
@@ -37,7 +61,7 @@ pub fn removal_leaves_after()
         → IsAfter before c f names grace now (applied (changes_of_mend before c f names seconds) c)
         (applied (changes_of_removal before c f names named grace now seconds) c) }
     ensures one { (before : List ℕ) (c : Content) (f : List ℕ) (names named : List (List ℕ))
-        (grace now : ℕ) (mended left other : Content) → AreNamedOutside before c f names named
+        (grace now : ℕ) → AreNamedOutside before c f names named → (mended left other : Content)
         → IsAfter before c f names grace now mended left
         → IsAfter before c f names grace now mended other → left ≡ other }
     ensures filtered { (before : List ℕ) (c : Content) (f : List ℕ) (names named : List (List ℕ))
@@ -46,37 +70,32 @@ pub fn removal_leaves_after()
         ≡ content_after before c f names named grace now seconds }
 {}
 
-/// A law: a call whose whole list was made leaves an exact index exact.
+/// A law: the counts of a removal are those of the data objects of its node that are gone. What
+/// stands afterwards and what was counted make what stood before.
+pub fn removal_counts_what_goes()
+    ensures files { (before : List ℕ) (c : Content) (f : List ℕ) (names named : List (List ℕ))
+        (grace now : ℕ) (seconds : ℕ → ℕ) → IsFqdn f
+        → weighed (as_file before f)
+        (applied (changes_of_removal before c f names named grace now seconds) c)
+        + removed_files before f c (changes_of_removal before c f names named grace now seconds)
+        ≡ weighed (as_file before f) c }
+    ensures bytes { (before : List ℕ) (c : Content) (f : List ℕ) (names named : List (List ℕ))
+        (grace now : ℕ) (seconds : ℕ → ℕ) → IsFqdn f
+        → weighed (as_bytes before f)
+        (applied (changes_of_removal before c f names named grace now seconds) c)
+        + removed_bytes before f c (changes_of_removal before c f names named grace now seconds)
+        ≡ weighed (as_bytes before f) c }
+{}
+
+/// A law: a call whose whole list was made leaves an exact index exact. The index of a node is
+/// exact in its part just where it is exact in the whole content.
 pub fn index_stays_exact()
-    ensures { (before : List ℕ) (c : Content) (running : Running) (f : List ℕ) (call : Call)
+    ensures stays { (before : List ℕ) (c : Content) (running : Running) (f : List ℕ) (call : Call)
         (xs : List Effect) → IsFqdn f → IsAsked before running f call
         → IsListOf before c running f call xs → IsBegunWell before c f call
         → IsIndexExact before c f → IsIndexExact before (applied xs c) f }
-{}
-
-/// A law: a rebuild makes the index of its node exact and changes nothing else, and over an exact
-/// index it is no change. An exact index is sound.
-pub fn rebuild_makes_exact()
-    ensures reaches { (before : List ℕ) (c : Content) (f : List ℕ) (entries : Entries)
-        (of_mend : ℕ → ℕ) (of_entries : List ℕ → ℕ) → IsFqdn f → IsGiven before c f entries
-        → IsIndexExact before
-        (applied (changes_of_rebuild before c f entries of_mend of_entries) c) f }
-    ensures others { (before : List ℕ) (c : Content) (f : List ℕ) (entries : Entries)
-        (of_mend : ℕ → ℕ) (of_entries : List ℕ → ℕ) (path : List ℕ) → IsFqdn f
-        → IsGiven before c f entries → is_entry_of_node f (kind_of before path) ≡ false
-        → ((kind : LatestKind) → kind_of before path ≢ Latest f kind)
-        → get (applied (changes_of_rebuild before c f entries of_mend of_entries) c) path
-        ≡ get c path }
-    ensures nothing { (before : List ℕ) (c : Content) (f : List ℕ) (entries : Entries)
-        (of_mend : ℕ → ℕ) (of_entries : List ℕ → ℕ) → IsFqdn f → IsGiven before c f entries
-        → IsIndexExact before c f
-        → changes_of_rebuild before c f entries of_mend of_entries ≡ [] }
-    ensures sound { (before : List ℕ) (c : Content) (f : List ℕ) → IsFqdn f
-        → IsIndexExact before c f → IsIndexSound before c f }
-    ensures given { (before : List ℕ) (c : Content) (f : List ℕ)
-        → ((entries : Entries) × IsGiven before c f entries) }
-    ensures one { (before : List ℕ) (c : Content) (f : List ℕ) (a b : Entries)
-        → IsGiven before c f a → IsGiven before c f b → a ≡ b }
+    ensures part { (before : List ℕ) (c : Content) (f : List ℕ) → IsFqdn f
+        → (IsIndexExact before (node_part before f c) f) ↔ (IsIndexExact before c f) }
 {}
 
 /// A law: each change of a call is of a path of its node that the call may change. After a section
