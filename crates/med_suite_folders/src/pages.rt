@@ -6,11 +6,11 @@ use med_suite_rows::calls::refusal;
 use med_suite_rows::pages::page_text;
 use med_suite_rows::places::{is_done, write_many};
 use std::alloc::Global;
-use std::fs::Files;
+use std::fs::{File, Files};
 use std::time::Clock;
 
 // The next page as a text, or a refusal, and its end.
-fn next_page<R: Files + Clock + AllocGlobal + Clone + Drop>(
+fn next_page<R: Files<File = File> + Clock + AllocGlobal + Clone + Drop>(
     alloc: Global,
     store: &mut FolderStore<R>,
     under: &str,
@@ -26,7 +26,7 @@ fn next_page<R: Files + Clock + AllocGlobal + Clone + Drop>(
 }
 
 // Opens a bucket below the base `pages`, with so many objects.
-fn open_many<R: Files + Clock + AllocGlobal + Clone + Drop>(
+fn open_many<R: Files<File = File> + Clock + AllocGlobal + Clone + Drop>(
     rt: &R,
     alloc: Global,
     store: &mut FolderStore<R>,
@@ -42,7 +42,7 @@ fn open_many<R: Files + Clock + AllocGlobal + Clone + Drop>(
 }
 
 // The page behind the first one, of 1,002 objects, where a file was made or removed since.
-fn is_second<R: Files + Clock + AllocGlobal + Clone + Drop>(
+fn is_second<R: Files<File = File> + Clock + AllocGlobal + Clone + Drop>(
     rt: &R,
     alloc: Global,
     store: &mut FolderStore<R>,
@@ -57,7 +57,7 @@ fn is_second<R: Files + Clock + AllocGlobal + Clone + Drop>(
     Some(text.as_str() == wanted)
 }
 
-fn first_wrong<'a, R: Files + Clock + AllocGlobal + Clone + Drop>(
+fn first_wrong<'a, R: Files<File = File> + Clock + AllocGlobal + Clone + Drop>(
     rt: &R,
     alloc: Global,
     store: &mut FolderStore<R>,

@@ -6,7 +6,7 @@ use med_suite_rows::calls::{entries_text, refusal};
 use med_suite_rows::places::many_bytes;
 use med_suite_rows::{places, rows};
 use std::alloc::Global;
-use std::fs::Files;
+use std::fs::{File, Files};
 use std::time::Clock;
 
 fn piece_of(alloc: Global, bytes: &[u8]) -> Option<Piece> {
@@ -16,7 +16,7 @@ fn piece_of(alloc: Global, bytes: &[u8]) -> Option<Piece> {
     Piece::of(alloc, bytes).ok()
 }
 
-fn begin<R: Files + Clock + AllocGlobal + Clone + Drop>(
+fn begin<R: Files<File = File> + Clock + AllocGlobal + Clone + Drop>(
     alloc: Global,
     store: &mut FolderStore<R>,
     path: &str,
@@ -25,7 +25,7 @@ fn begin<R: Files + Clock + AllocGlobal + Clone + Drop>(
     store.begin(alloc, &path)
 }
 
-fn is_put<R: Files + Clock + AllocGlobal + Clone + Drop>(
+fn is_put<R: Files<File = File> + Clock + AllocGlobal + Clone + Drop>(
     alloc: Global,
     store: &mut FolderStore<R>,
     object: &str,
@@ -39,7 +39,7 @@ fn is_put<R: Files + Clock + AllocGlobal + Clone + Drop>(
     }
 }
 
-fn is_got<R: Files + Clock + AllocGlobal + Clone + Drop>(
+fn is_got<R: Files<File = File> + Clock + AllocGlobal + Clone + Drop>(
     alloc: Global,
     store: &mut FolderStore<R>,
     path: &ObjPath,
@@ -52,7 +52,7 @@ fn is_got<R: Files + Clock + AllocGlobal + Clone + Drop>(
     }
 }
 
-fn is_looked_at<R: Files + Clock + AllocGlobal + Clone + Drop>(
+fn is_looked_at<R: Files<File = File> + Clock + AllocGlobal + Clone + Drop>(
     alloc: Global,
     store: &mut FolderStore<R>,
     path: &ObjPath,
@@ -65,7 +65,7 @@ fn is_looked_at<R: Files + Clock + AllocGlobal + Clone + Drop>(
     }
 }
 
-fn is_object<R: Files + Clock + AllocGlobal + Clone + Drop>(
+fn is_object<R: Files<File = File> + Clock + AllocGlobal + Clone + Drop>(
     alloc: Global,
     store: &mut FolderStore<R>,
     path: &str,
@@ -76,7 +76,7 @@ fn is_object<R: Files + Clock + AllocGlobal + Clone + Drop>(
     Some(is_got && is_looked_at(alloc, store, &path, wanted)?)
 }
 
-fn is_list<R: Files + Clock + AllocGlobal + Clone + Drop>(
+fn is_list<R: Files<File = File> + Clock + AllocGlobal + Clone + Drop>(
     alloc: Global,
     store: &mut FolderStore<R>,
     under: &str,
@@ -90,7 +90,7 @@ fn is_list<R: Files + Clock + AllocGlobal + Clone + Drop>(
 }
 
 // A call of an upload answers `done` or a refusal: `begin PATH`, `append TEXT`, `commit` or `drop`.
-fn is_step<R: Files + Clock + AllocGlobal + Clone + Drop>(
+fn is_step<R: Files<File = File> + Clock + AllocGlobal + Clone + Drop>(
     alloc: Global,
     store: &mut FolderStore<R>,
     word: &str,
@@ -117,7 +117,7 @@ fn is_step<R: Files + Clock + AllocGlobal + Clone + Drop>(
 
 // A call of an upload, or one that may come while it is under way: `put PATH=TEXT`, `object PATH`
 // of `get` and `stat`, or `sizes UNDER`.
-fn is_answered<R: Files + Clock + AllocGlobal + Clone + Drop>(
+fn is_answered<R: Files<File = File> + Clock + AllocGlobal + Clone + Drop>(
     alloc: Global,
     store: &mut FolderStore<R>,
     call: &str,
@@ -134,7 +134,7 @@ fn is_answered<R: Files + Clock + AllocGlobal + Clone + Drop>(
 
 // A row with an answer is a call, and one without makes or looks for a file. `%` stands for a name
 // of 255 bytes.
-fn is_done<R: Files + Clock + AllocGlobal + Clone + Drop>(
+fn is_done<R: Files<File = File> + Clock + AllocGlobal + Clone + Drop>(
     rt: &R,
     alloc: Global,
     store: &mut FolderStore<R>,
@@ -150,7 +150,7 @@ fn is_done<R: Files + Clock + AllocGlobal + Clone + Drop>(
 
 // The first row that is answered otherwise, or can't be done, where the bucket was opened below the
 // base `uploads`.
-fn first_wrong<'a, R: Files + Clock + AllocGlobal + Clone + Drop>(
+fn first_wrong<'a, R: Files<File = File> + Clock + AllocGlobal + Clone + Drop>(
     rt: &R,
     alloc: Global,
     store: &mut FolderStore<R>,
@@ -180,11 +180,11 @@ append  => done
 append c => done
 commit => done
 object a/x => abc
-absent uploads/done/.medusa-tmp/upload
+absent uploads/done/.medusa-tmp/part-a
 begin a/x => done
 append dropped => done
 drop => done
-absent uploads/done/.medusa-tmp/upload
+absent uploads/done/.medusa-tmp/part-a
 drop => done
 begin a/x => done
 append second => done
@@ -232,26 +232,29 @@ append abc => done
 commit => failed
 folder uploads/away
 link uploads/refused/far=../away
-begin far/x => failed
-absent uploads/refused/.medusa-tmp/upload
-file uploads/refused/.medusa-tmp/upload=left
+begin far/x => done
+append abc => done
+commit => failed
+absent uploads/refused/.medusa-tmp/part-far
+absent uploads/away/x
+file uploads/refused/.medusa-tmp/rest=left
 begin a => done
 append abc => done
-file uploads/refused/.medusa-tmp/upload=more
+file uploads/refused/.medusa-tmp/rest=more
 commit => failed
-absent uploads/refused/.medusa-tmp/upload
+absent uploads/refused/.medusa-tmp/rest
 commit => failed
 object a => absent
 begin a => done
 append abc => done
-remove uploads/refused/.medusa-tmp/upload
+remove uploads/refused/.medusa-tmp/rest
 commit => failed
 object a => absent
 begin d/x => done
 append abc => done
 link uploads/refused/d=../away
 commit => failed
-absent uploads/refused/.medusa-tmp/upload
+absent uploads/refused/.medusa-tmp/part-d
 absent uploads/away/x
 begin a => done
 append abc => done
@@ -268,7 +271,7 @@ fn an_upload_that_is_refused_leaves_nothing(rt: HostRuntime) {
 }
 
 // Stores bytes in pieces, each as long as a piece may be but for the last one.
-fn upload<R: Files + Clock + AllocGlobal + Clone + Drop>(
+fn upload<R: Files<File = File> + Clock + AllocGlobal + Clone + Drop>(
     alloc: Global,
     store: &mut FolderStore<R>,
     path: &ObjPath,
@@ -282,7 +285,7 @@ fn upload<R: Files + Clock + AllocGlobal + Clone + Drop>(
 }
 
 // The bytes of an object, by pieces up to the first one that isn't full.
-fn read_by_pieces<R: Files + Clock + AllocGlobal + Clone + Drop>(
+fn read_by_pieces<R: Files<File = File> + Clock + AllocGlobal + Clone + Drop>(
     alloc: Global,
     store: &mut FolderStore<R>,
     path: &ObjPath,
@@ -299,7 +302,7 @@ fn read_by_pieces<R: Files + Clock + AllocGlobal + Clone + Drop>(
 }
 
 // Whether the object alone is listed under its path, with that size and second.
-fn is_listed<R: Files + Clock + AllocGlobal + Clone + Drop>(
+fn is_listed<R: Files<File = File> + Clock + AllocGlobal + Clone + Drop>(
     alloc: Global,
     store: &mut FolderStore<R>,
     path: &ObjPath,
@@ -318,7 +321,7 @@ fn is_listed<R: Files + Clock + AllocGlobal + Clone + Drop>(
 }
 
 // Whether bytes are stored in pieces, and read as what they are, whole and in pieces.
-fn is_kept<R: Files + Clock + AllocGlobal + Clone + Drop>(
+fn is_kept<R: Files<File = File> + Clock + AllocGlobal + Clone + Drop>(
     alloc: Global,
     store: &mut FolderStore<R>,
     path: &ObjPath,
@@ -332,7 +335,7 @@ fn is_kept<R: Files + Clock + AllocGlobal + Clone + Drop>(
     Some(is_read && is_dated)
 }
 
-fn is_size_kept<R: Files + Clock + AllocGlobal + Clone + Drop>(
+fn is_size_kept<R: Files<File = File> + Clock + AllocGlobal + Clone + Drop>(
     alloc: Global,
     store: &mut FolderStore<R>,
     size: &str,
@@ -343,7 +346,7 @@ fn is_size_kept<R: Files + Clock + AllocGlobal + Clone + Drop>(
 }
 
 // The first size of which an object isn't kept.
-fn first_lost<'a, R: Files + Clock + AllocGlobal + Clone + Drop>(
+fn first_lost<'a, R: Files<File = File> + Clock + AllocGlobal + Clone + Drop>(
     alloc: Global,
     store: &mut FolderStore<R>,
     sizes: &'a str,

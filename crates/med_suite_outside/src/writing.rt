@@ -132,29 +132,29 @@ fn first_wrong_of<'a>(rt: HostRuntime, table: &'a str) -> Option<&'a str> {
 const BESIDE: &str = "\
 one open writing/k => done
 two open writing/k => done
-one upload n1/data/ks/t/a=1 => done
-two upload n1/data/ks/t/b=2 => failed
+one upload n1/files/ks/t/a=1 => done
+two upload n1/files/ks/t/b=2 => failed
 two put n1/b/meta/schema.cql=2 => failed
 two put index/latest_backup/n1/backup_name.txt=2 => failed
-two delete n1/data/ks/t/a => failed
+two delete n1/files/ks/t/a => failed
 absent writing/k/n1/b
 absent writing/k/index
-two sizes => n1/data/ks/t/a 1;
-two get n1/data/ks/t/a => 1
-two stat n1/data/ks/t/a => 1
-two upload n2/data/ks/t/b=22 => done
+two sizes => n1/files/ks/t/a 1;
+two get n1/files/ks/t/a => 1
+two stat n1/files/ks/t/a => 1
+two upload n2/files/ks/t/b=22 => done
 two put other=2 => listed
 one put n2/b/meta/schema.cql=1 => failed
 one put other=12 => listed
-one delete n1/data/ks/t/a => done
-one sizes => n2/data/ks/t/b 2;other 2;";
+one delete n1/files/ks/t/a => done
+one sizes => n2/files/ks/t/b 2;other 2;";
 
 // When both are gone, so are their locks.
 const AFTERWARDS: &str = "\
 one open writing/k => done
-one upload n2/data/ks/t/c=1 => done
-one upload n1/data/ks/t/c=1 => done
-one sizes => n1/data/ks/t/c 1;n2/data/ks/t/b 2;n2/data/ks/t/c 1;other 2;";
+one upload n2/files/ks/t/c=1 => done
+one upload n1/files/ks/t/c=1 => done
+one sizes => n1/files/ks/t/c 1;n2/files/ks/t/b 2;n2/files/ks/t/c 1;other 2;";
 
 #[test]
 fn two_storages_change_two_nodes_of_one_bucket(rt: HostRuntime) {
@@ -169,14 +169,14 @@ file writing/l/.medusa-tmp/rest=left by a put
 file writing/l/.medusa-tmp/lock-n1=
 file writing/l/.medusa-tmp/part-n2=kept
 one open writing/l => done
-one upload n1/data/ks/t/a=new => done
+one upload n1/files/ks/t/a=new => done
 one put other=12 => listed
 absent writing/l/.medusa-tmp/part-n1
 absent writing/l/.medusa-tmp/rest
-one get n1/data/ks/t/a => new
+one get n1/files/ks/t/a => new
 one get other => 12
 two open writing/l => done
-two sizes => n1/data/ks/t/a 3;other 2;
+two sizes => n1/files/ks/t/a 3;other 2;
 remove writing/l/.medusa-tmp/lock-n1
 remove writing/l/.medusa-tmp/part-n2
 rmdir writing/l/.medusa-tmp";
@@ -189,30 +189,30 @@ fn an_opening_removes_nothing_and_a_change_what_is_in_its_way(rt: HostRuntime) {
 // A file that may not be opened is answered from what was noted, and one that changed is not.
 const NOTED: &str = "\
 one open writing/s => done
-one upload n1/data/ks/t/a=abc => done
+one upload n1/files/ks/t/a=abc => done
 letter a
-one stat n1/data/ks/t/a => abc
-one get n1/data/ks/t/a => failed
-file writing/s/n1/data/ks/t/a=xyz
-one stat n1/data/ks/t/a => failed
+one stat n1/files/ks/t/a => abc
+one get n1/files/ks/t/a => failed
+file writing/s/n1/files/ks/t/a=xyz
+one stat n1/files/ks/t/a => failed
 letter -
-one stat n1/data/ks/t/a => xyz
+one stat n1/files/ks/t/a => xyz
 letter a
-one stat n1/data/ks/t/a => xyz
-date writing/s/n1/data/ks/t/a=1000
-one stat n1/data/ks/t/a => failed
+one stat n1/files/ks/t/a => xyz
+date writing/s/n1/files/ks/t/a=1000
+one stat n1/files/ks/t/a => failed
 letter -
-one put n1/data/ks/t/a=uvw => listed
-one stat n1/data/ks/t/a => uvw
-one upload n1/data/ks/t/a= => done
-one stat n1/data/ks/t/a => 
-one delete n1/data/ks/t/a => done
-one stat n1/data/ks/t/a => absent
-one upload n1/data/ks/t/b=abc => done
+one put n1/files/ks/t/a=uvw => listed
+one stat n1/files/ks/t/a => uvw
+one upload n1/files/ks/t/a= => done
+one stat n1/files/ks/t/a => 
+one delete n1/files/ks/t/a => done
+one stat n1/files/ks/t/a => absent
+one upload n1/files/ks/t/b=abc => done
 letter b
-one stat n1/data/ks/t/b => abc
-file writing/s/n1/data/ks/t/b=abcd
-one stat n1/data/ks/t/b => failed";
+one stat n1/files/ks/t/b => abc
+file writing/s/n1/files/ks/t/b=abcd
+one stat n1/files/ks/t/b => failed";
 
 #[test]
 fn a_file_is_read_through_where_it_changed(rt: HostRuntime) {
@@ -225,16 +225,16 @@ const KEPT: &str = "\
 one open writing/w => done
 two open writing/w => done
 two put other=2 => listed
-one upload n1/data/ks/t/a=abc => done
+one upload n1/files/ks/t/a=abc => done
 one put n1/b/meta/schema.cql=1 => listed
 letter t
 one put n1/b/meta/schema.cql=12 => listed
-one upload n1/data/ks/t/b=abc => done
+one upload n1/files/ks/t/b=abc => done
 one delete other => failed
 letter -
 one put n1/b/meta/manifest.json=1 => failed
 one delete other => failed
-one sizes => n1/b/meta/schema.cql 2;n1/data/ks/t/a 3;n1/data/ks/t/b 3;other 1;";
+one sizes => n1/b/meta/schema.cql 2;n1/files/ks/t/a 3;n1/files/ks/t/b 3;other 1;";
 
 #[test]
 fn a_put_waits_until_what_was_uploaded_is_kept(rt: HostRuntime) {
@@ -244,26 +244,26 @@ fn a_put_waits_until_what_was_uploaded_is_kept(rt: HostRuntime) {
 // A link that is planted between two uploads isn't followed, and a folder that is gone is made.
 const PLANTED: &str = "\
 one open writing/p => done
-one upload n1/data/ks/t/a=1 => done
-remove writing/p/n1/data/ks/t/a
-rmdir writing/p/n1/data/ks/t
+one upload n1/files/ks/t/a=1 => done
+remove writing/p/n1/files/ks/t/a
+rmdir writing/p/n1/files/ks/t
 folder writing/away
-link writing/p/n1/data/ks/t=../../../../away
-one upload n1/data/ks/t/b=2 => failed
-one upload n1/data/ks/t/u/b=2 => failed
+link writing/p/n1/files/ks/t=../../../../away
+one upload n1/files/ks/t/b=2 => failed
+one upload n1/files/ks/t/u/b=2 => failed
 absent writing/away/b
 absent writing/away/u
 absent writing/p/.medusa-tmp/part-n1
-remove writing/p/n1/data/ks/t
-one upload n1/data/ks/t/b=2 => done
+remove writing/p/n1/files/ks/t
+one upload n1/files/ks/t/b=2 => done
 remove writing/p/.medusa-tmp/lock-n1
 rmdir writing/p/.medusa-tmp
 link writing/p/.medusa-tmp=../away
-one upload n1/data/ks/t/c=3 => failed
-one upload n2/data/ks/t/c=3 => failed
+one upload n1/files/ks/t/c=3 => failed
+one upload n2/files/ks/t/c=3 => failed
 absent writing/away/part-n1
 absent writing/away/lock-n2
-one sizes => n1/data/ks/t/b 1;";
+one sizes => n1/files/ks/t/b 1;";
 
 #[test]
 fn a_link_that_is_planted_between_two_uploads_isnt_followed(rt: HostRuntime) {
@@ -287,9 +287,9 @@ fn count_uploads<S: Storage>(alloc: Global, store: &mut S, text: &str) -> u32
 
 // A row of a thousand objects.
 fn thousand(alloc: Global) -> Option<String> {
-    let mut text = String::from_str(alloc, "n1/data/ks/t/a=abc").ok()?;
+    let mut text = String::from_str(alloc, "n1/files/ks/t/a=abc").ok()?;
     for _ in 1..1000u32 {
-        text.push_str(" n1/data/ks/t/a=abc").ok()?;
+        text.push_str(" n1/files/ks/t/a=abc").ok()?;
     }
     Some(text)
 }
