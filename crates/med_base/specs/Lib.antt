@@ -13,6 +13,7 @@ pub mod KindRelation
 pub mod Kinds
 pub mod Layout
 pub mod Memory
+pub mod NameOrder
 pub mod Names
 pub mod Part
 pub mod Prefix

@@ -60,8 +60,8 @@ impl Layout {
         }
     }
 
-    // What stands before each path.
-    pub(crate) fn before(&self) -> &str
+    /// What stands before each path.
+    pub fn before(&self) -> &str
         ensures { result.now ≡ self.now }
     {
         self.before.as_str()

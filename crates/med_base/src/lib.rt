@@ -21,6 +21,7 @@ mod laws;
 mod layout;
 mod memory;
 mod names;
+mod order;
 mod path;
 mod pieces;
 mod prefix;
