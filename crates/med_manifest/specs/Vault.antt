@@ -67,12 +67,18 @@ IsFilesOf c before f n (Some m) =
     (files : List FileRecord) × HasManifest before f n c files × IsFileMap files m
 IsFilesOf c before f n None = (files : List FileRecord) → HasManifest before f n c files → ⊥
 
+-- this is what a row tells of a backup of the node, but for its files
+pub record IsListed (c : Content) (before f name : List ℕ) (differential : Bool) (start : ℕ)
+    (finish : Option ℕ) : Type 0
+  where
+    pub backup : IsBackup c before f name
+    pub mode : differential ≡ is_some (second_of c before f name Differential)
+    pub started : IsStarted c before f name start
+    pub finished : finish ≡ second_of c before f name Manifest
+
 -- the row is that of a backup of the node
 pub record IsRow (c : Content) (before f : List ℕ) (row : Row) : Type 0 where
-  pub backup : IsBackup c before f row.name
-  pub mode : row.is_differential ≡ is_some (second_of c before f row.name Differential)
-  pub started : IsStarted c before f row.name row.started
-  pub finished : row.finished ≡ second_of c before f row.name Manifest
+  pub listed : IsListed c before f row.name row.is_differential row.started row.finished
   pub files : IsFilesOf c before f row.name row.files
 
 -- rows are in order of their start, and then of their names
