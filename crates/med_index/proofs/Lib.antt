@@ -1,0 +1,7 @@
+pub mod Finding
+pub mod Listings
+pub mod NodeLemmas
+pub mod RowLemmas
+pub mod RowOrder
+pub mod Starts
+pub mod Walking

@@ -1,2 +1,5 @@
 pub mod Errors
+pub mod Marks
 pub mod Modes
+pub mod Rows
+pub mod Visits

@@ -5,9 +5,16 @@
 //! `specs/EntryPuts.antt` and `specs/Index.antt` there first.
 #![tactic(auto)]
 
+mod backups;
 mod entries;
 mod errors;
+mod marks;
+mod meta;
+mod nodes;
 mod put;
+mod walk;
 
+pub use backups::rows;
 pub use entries::{finish_entries, start_entries};
 pub use errors::ListError;
+pub use nodes::nodes_in;

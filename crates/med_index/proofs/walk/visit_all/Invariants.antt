@@ -1,0 +1,11 @@
+use Rattle.std.proofs.Common.{◌++◌, ℕ, List, drop}
+use Rattle.med_base.specs.Content.{Content}
+use Rattle.med_outside.specs.declared.storage.Entry.{Entry}
+use Rattle.med_index.proofs.walk.visit_all.Given as goal
+
+-- the entries from this one on are still to come
+abbrev pub invariant-loop-entry : goal.invariant-loop-entry
+invariant-loop-entry g l =
+    (f : List ℕ) (c : Content) (rest : List Entry)
+    → g.V.Visitor.found l.fn.visitor l.layout f c (l.entries ++ rest)
+    → g.V.Visitor.found l.visitor l.layout f c (drop l.entry-index l.entries ++ rest)
