@@ -4,11 +4,12 @@ use Rattle.std.proofs.lemmas.List.Elements.{All-from_recursion, recursion_from_A
 use Rattle.std.proofs.lemmas.List.Sorted.{All-permutation, Contains-permutation, IsPermutation-map}
 use Rattle.std.proofs.lemmas.Map.Keys.{IsDistinct-from_sorted, IsDistinct-IsPermutation}
 use Rattle.std.proofs.lemmas.Map.Lookups.{exact_bytes}
-use Rattle.std.proofs.lemmas.Map.Views.{All-found, btree_map_contains_key_iff, Contains-from_any, list_any-from_Contains}
+use Rattle.std.proofs.lemmas.Map.Views.{All-found, btree_map_contains_key_iff}
 use Rattle.std.specs.BTreeMap.{BTreeMap, IsOrdered, get, keys}
+use Rattle.std.specs.BTreeSet.{BTreeSet}
 use Rattle.std.specs.Cmp.{IsEquivalence, eq_by_cmp_equiv}
 use Rattle.std.specs.Cmp.Lexicographic.{nat_list_cmp_total}
-use Rattle.std.specs.List.{AllByRecursion, IsDistinct, list_any}
+use Rattle.std.specs.List.{AllByRecursion, IsDistinct}
 use Rattle.std.specs.List.Sorted.{IsPermutation}
 use Rattle.med_base.specs.declared.layout.MetaKind.{MetaKind}
 use Rattle.med_base.specs.declared.layout.MetaKind.TheVariants.{Differential, Manifest}
@@ -17,10 +18,10 @@ use Rattle.med_base.specs.NameOrder.{name_cmp, name_eq}
 use Rattle.med_manifest.specs.Vault.{IsBackup, second_of}
 use Rattle.med_outside.specs.declared.backup_row.BackupRow.{BackupRow}
 use Rattle.med_index.specs.declared.marks.Marks.{Marks}
-use Rattle.med_index.specs.Marks.{mark_of, row_of}
+use Rattle.med_index.specs.Marks.{IsSetOf, mark_of, row_of}
 use Rattle.med_index.specs.Rows.{AreApart, AreBackups, AreMarked, IsTold, names_of}
 use Rattle.med_index.specs.Visits.{AreFound, found_second}
-use Rattle.med_index.proofs.Finding.{equal_of, nothing_marked}
+use Rattle.med_index.proofs.Finding.{nothing_marked}
 use Rattle.med_index.proofs.Starts.{mode_is, start_is}
 
 abbrev Found : Type 0
@@ -46,7 +47,7 @@ all_moved : {A : Type 0} (P : A → Type 0) (xs ys : List A) → IsPermutation x
 all_moved P xs ys same all =
     recursion_from_All P ys (All-permutation P xs ys same (All-from_recursion P xs all))
 
-row_names : (running : List (List ℕ)) (es : List Pair)
+row_names : (running : BTreeSet (List ℕ)) (es : List Pair)
     → names_of (map (row_of running) es) ≡ map (λ (e : Pair). e.0) es
 row_names running [] = refl
 row_names running (e ∷ es) = ap (λ l. e.0 ∷ l) (row_names running es)
@@ -57,36 +58,19 @@ same_second (Some x) b there back = sym (there x refl)
 same_second None None there back = refl
 same_second None (Some y) there back = back y refl
 
--- ---- running backups
+-- ---- names
 
 name_equiv : IsEquivalence name_eq
 name_equiv = eq_by_cmp_equiv nat_list_cmp_total
 
-turned : IsEquivalence (λ (a b : List ℕ). name_eq b a)
-turned = record {
-  refl = name_equiv.refl;
-  symm = λ x y. name_equiv.symm y x;
-  congr = λ x y z same.
-      name_equiv.symm z x ∙ name_equiv.congr x y z (name_equiv.symm x y ∙ same)
-      ∙ name_equiv.symm y z;
-}
-
-marked_is : (running : List (List ℕ)) (n : List ℕ)
-    → IsTrue (list_any (λ (k : List ℕ). name_eq k n) running) ↔ Contains running n
-marked_is running n = (
-  Contains-from_any {eq = λ (a b : List ℕ). name_eq b a}
-      (λ x y same. sym (exact_bytes y x (equal_of (name_cmp y x) same))) n running,
-  list_any-from_Contains {eq = λ (a b : List ℕ). name_eq b a} turned n running,
-)
-
-module _ (running : List (List ℕ)) (m : Found) (rows sorted : List BackupRow)
+module _ (running : BTreeSet (List ℕ)) (m : Found) (rows sorted : List BackupRow)
     (rows_are : rows ≡ map (row_of running) m.entries) (same : IsPermutation rows sorted) where
-  pub marked : AreMarked running sorted
-  marked =
-      all_moved (λ (r : BackupRow). IsTrue r.running ↔ Contains running r.name) rows sorted same
-      (subst (AreMarked running) (sym rows_are)
-      (each (λ (r : BackupRow). IsTrue r.running ↔ Contains running r.name) (row_of running)
-      (λ (e : Pair). marked_is running e.0) m.entries))
+  pub marked : (names : List (List ℕ)) → IsSetOf names running → AreMarked names sorted
+  marked names set =
+      all_moved (λ (r : BackupRow). IsTrue r.running ↔ Contains names r.name) rows sorted same
+      (subst (AreMarked names) (sym rows_are)
+      (each (λ (r : BackupRow). IsTrue r.running ↔ Contains names r.name) (row_of running)
+      (λ (e : Pair). set e.0) m.entries))
 
   names_are : names_of rows ≡ keys m
   names_are = ap names_of rows_are ∙ row_names running m.entries

@@ -1,14 +1,14 @@
 -- Pages in a row, as a walk goes over them.
-use Rattle.std.proofs.Common.{◌≡◌, ◌∙◌, ◌<◌, ℕ, List, [], ◌++◌, Option, Some, None, IfSome, refl, sym, ap, subst, arith}
+use Rattle.std.proofs.Common.{◌≡◌, ◌∙◌, ℕ, List, ◌++◌, Option, Some, None, IfSome, refl, sym, ap, subst}
 use Rattle.med_base.specs.Content.{Content}
-use Rattle.med_outside.specs.Pages.{CountsDown, CountsRight, IsPage, behind, left_of}
+use Rattle.med_outside.specs.Pages.{CountsRight, IsPage, behind}
 use Rattle.med_outside.specs.State.{State, History, OnlyReads}
 use Rattle.med_outside.specs.Storage.{listing}
 use Rattle.med_outside.specs.declared.storage.Entry.{Entry}
 use Rattle.med_outside.specs.declared.storage.Page.{Page}
 use Rattle.med_outside.specs.declared.storage.PageEnd.{PageEnd}
 use Rattle.med_outside.proofs.Paging.{behind_end, next_counts, page_splits, none_before}
-use Rattle.med_outside.proofs.Passing.{after_all-nothing, moves_on}
+use Rattle.med_outside.proofs.Passing.{after_all-nothing}
 use Rattle.med_index.specs.Visits.{left_behind}
 
 -- ---- calls that only read

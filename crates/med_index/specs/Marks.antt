@@ -1,9 +1,9 @@
 -- The seconds of the objects that tell of a backup, as far as they were found.
-use Rattle.std.specs.Prelude.{ℕ, List, Option, Some, None, is_some, unwrap_or, if◌then◌else◌}
-use Rattle.std.specs.List.{list_any}
+use Rattle.std.specs.Prelude.{◌↔◌, ℕ, List, Option, Some, None, is_some, unwrap_or, if◌then◌else◌, Contains, IsTrue}
+use Rattle.std.specs.BTreeSet.{BTreeSet, contains}
 use Rattle.med_base.specs.declared.layout.MetaKind.{MetaKind}
 use Rattle.med_base.specs.declared.layout.MetaKind.TheVariants.{Schema, Differential, Tokenmap, Manifest}
-use Rattle.med_base.specs.NameOrder.{name_eq}
+use Rattle.med_base.specs.NameOrder.{name_cmp}
 use Rattle.med_manifest.specs.Index.{earlier, or_second}
 use Rattle.med_outside.specs.declared.backup_row.BackupRow.{BackupRow}
 use Rattle.med_outside.specs.declared.mode.Mode.{Mode}
@@ -63,12 +63,16 @@ start_of m =
 abbrev pub mode_of : Marks → Mode
 mode_of m = if is_some m.differential then mode.Differential else mode.Full
 
--- the row of a backup, where these names are running
-abbrev pub row_of : List (List ℕ) → List ℕ × Marks → BackupRow
+-- the set has these names and no others
+abbrev pub IsSetOf : List (List ℕ) → BTreeSet (List ℕ) → Type 0
+IsSetOf names set = (n : List ℕ) → IsTrue (contains name_cmp set n) ↔ Contains names n
+
+-- the row of a backup, where the names of the set are running
+abbrev pub row_of : BTreeSet (List ℕ) → List ℕ × Marks → BackupRow
 row_of running e = record {
   name = e.0;
   mode = mode_of e.1;
   started = start_of e.1;
   finished = e.1.manifest;
-  running = list_any (λ n. name_eq n e.0) running;
+  running = contains name_cmp running e.0;
 }

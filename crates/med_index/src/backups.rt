@@ -1,9 +1,8 @@
 // The backups of a node as rows.
 ghost use Rattle.std.specs.Prelude.{◌≡◌, [], None, Some, IfOk, IfSome, OnOk, map};
 ghost use Rattle.std.specs.BTreeMap.{IsOrdered, Updates, get};
-ghost use Rattle.std.specs.List.{list_any};
 ghost use Rattle.std.specs.List.Sorted.{IsPermutation, IsSorted};
-ghost use Rattle.med_base.specs.NameOrder.{name_cmp, name_eq};
+ghost use Rattle.med_base.specs.NameOrder.{name_cmp};
 ghost use Rattle.med_base.specs.Names.{backup_fault};
 ghost use Rattle.med_outside.specs.State.{IsReady, OnlyReads};
 ghost use Rattle.med_index.specs.Errors.{HasStoreCause};
@@ -14,12 +13,13 @@ ghost use Rattle.med_index.specs.Visits.{AreFound};
 use crate::ListError;
 use crate::marks::Marks;
 use crate::meta::meta_at;
+use crate::running::set_of;
 use crate::walk::{Visitor, walk};
 use med_base::{BackupName, Fqdn, Layout, MetaKind, NameError, NoMemory};
 use med_outside::{BackupRow, Entry, Storage};
 use std::alloc::Global;
 use std::cmp::Ordering;
-use std::collections::BTreeMap;
+use std::collections::{BTreeMap, BTreeSet};
 
 // What was found of the backups of a node.
 #[derive(Drop)]
@@ -79,17 +79,10 @@ impl Visitor for Backups<'_> {
     }
 }
 
-// Whether this process is making the backup.
-fn is_running(running: &[BackupName], name: &BackupName) -> bool
-    ensures { result ≡ list_any (λ n. name_eq n name.now) running.now }
-{
-    running.contains(name)
-}
-
-fn row_of(name: BackupName, marks: Marks, running: &[BackupName]) -> BackupRow
+fn row_of(name: BackupName, marks: Marks, running: &BTreeSet<BackupName>) -> BackupRow
     ensures { result ≡ row_with running.now (name, marks) }
 {
-    let running = is_running(running, &name);
+    let running = running.contains(&name);
     BackupRow {
         name,
         mode: marks.mode(),
@@ -103,7 +96,7 @@ fn row_of(name: BackupName, marks: Marks, running: &[BackupName]) -> BackupRow
 fn rows_of(
     alloc: Global,
     found: BTreeMap<BackupName, Marks>,
-    running: &[BackupName],
+    running: &BTreeSet<BackupName>,
 ) -> Result<Vec<BackupRow>, NoMemory>
     ensures rows { IfOk result (λ rows. rows.items ≡ map (row_with running.now) found.entries) }
     ensures order { OnOk result (IsOrdered name_cmp found) }
@@ -177,7 +170,11 @@ pub fn rows<S: Storage>(
     ensures cause { HasStoreCause (S.state store.old).faults (S.state store.new).faults result }
 {
     let found = find_backups(alloc, store, layout, node)?;
-    match rows_of(alloc, found, running) {
+    let running = match set_of(alloc, running) {
+        Ok(running) => running,
+        Err(NoMemory) => return Err(ListError::Memory),
+    };
+    match rows_of(alloc, found, &running) {
         Ok(mut rows) => {
             sort_rows(&mut rows);
             Ok(rows)

@@ -12,6 +12,7 @@ mod marks;
 mod meta;
 mod nodes;
 mod put;
+mod running;
 mod walk;
 
 pub use backups::rows;

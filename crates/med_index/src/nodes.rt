@@ -57,7 +57,7 @@ fn names_of(alloc: Global, found: BTreeMap<Fqdn, ()>) -> Result<Vec<Fqdn>, Alloc
     found.into_keys().collect(alloc)
 }
 
-/// The nodes that have a backup, in order of their bytes. The bucket is only read, and `Store` comes
+/// The nodes that have a backup, in order of their bytes. The bucket is only read; `Store` comes
 /// only where its count of faults rose.
 pub fn nodes_in<S: Storage>(
     alloc: Global,

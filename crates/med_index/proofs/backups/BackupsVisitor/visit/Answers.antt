@@ -31,4 +31,5 @@ returns-else-eq c = λ f d rest old.
     c.in-Some.kind (subst IsFqdn old.node_is c.as_str-node.ensures.fits)
     (sym c.in-Some.ensures.meta)
     (λ same. other_text c.in-Some.owner.now c.as_str-node.result.now
-    (sym c.eq.ensures ∙ c.if-eq.false) (same ∙ sym old.node_is ∙ sym c.as_str-node.ensures.value))) old
+    (sym c.eq.ensures ∙ c.if-eq.false)
+    (same ∙ sym old.node_is ∙ sym c.as_str-node.ensures.value))) old

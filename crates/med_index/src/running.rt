@@ -1,0 +1,18 @@
+// The names of backups that are being made.
+ghost use Rattle.std.specs.Prelude.{IfOk};
+ghost use Rattle.med_index.specs.Marks.{IsSetOf};
+
+use med_base::{BackupName, NoMemory};
+use std::alloc::Global;
+use std::collections::BTreeSet;
+
+/// The names as a set.
+pub(crate) fn set_of(alloc: Global, names: &[BackupName]) -> Result<BTreeSet<BackupName>, NoMemory>
+    ensures { IfOk result (IsSetOf names.now) }
+{
+    let mut set = BTreeSet::new(alloc);
+    for name in names {
+        set.insert(name.copy(alloc)?)?;
+    }
+    Ok(set)
+}
