@@ -12,6 +12,7 @@ use Rattle.med_index.specs.declared.marks.Marks.{Marks}
 
 -- ---- for this crate's own clauses
 
+-- nothing was found
 abbrev pub no_marks : Marks
 no_marks = record { schema = None; differential = None; tokenmap = None; manifest = None }
 
@@ -60,6 +61,7 @@ start_of m =
     unwrap_or
     (or_second m.schema (earlier m.differential (earlier m.tokenmap m.manifest))) 0
 
+-- a backup is differential where its marker was found
 abbrev pub mode_of : Marks → Mode
 mode_of m = if is_some m.differential then mode.Differential else mode.Full
 

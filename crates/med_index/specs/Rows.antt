@@ -11,6 +11,7 @@ use Rattle.med_manifest.specs.Vault.{IsBackup, IsListed}
 use Rattle.med_outside.specs.declared.backup_row.BackupRow.{BackupRow}
 use Rattle.med_index.specs.Modes.{is_differential}
 
+-- the names of the backups, in the order of their rows
 abbrev pub names_of : List BackupRow → List (List ℕ)
 names_of rows = map (λ (r : BackupRow). r.name) rows
 
