@@ -1,4 +1,9 @@
-// A storage in memory that is set to fail.
+// A storage in memory that is set to fail. It is at rest between two rows, under the layout with
+// nothing before its paths.
+ghost use Rattle.std.specs.Prelude.{[]};
+ghost use Rattle.med_outside.specs.State.{IsReady};
+ghost use Rattle.med_mem.specs.Told.{state_of};
+
 use med_base::ObjPath;
 use med_mem::{MemStore, MemWhen};
 use med_outside::Storage;
@@ -7,7 +12,10 @@ use std::alloc::Global;
 
 // A row `step NUMBER EFFECT` or `put PATH EFFECT`: the call of that number, or the next put of that
 // path, fails, and takes effect where EFFECT is `lands`.
-fn set(alloc: Global, store: &mut MemStore, row: &str) -> Option<()> {
+fn set(alloc: Global, store: &mut MemStore, row: &str) -> Option<()>
+    requires { IsReady [] (state_of store.old) }
+    ensures { IsReady [] (state_of store.new) }
+{
     let (word, rest) = row.split_once(' ')?;
     let (what, effect) = rest.split_once(' ')?;
     let when = match word {
@@ -18,10 +26,11 @@ fn set(alloc: Global, store: &mut MemStore, row: &str) -> Option<()> {
     store.fail(when, effect == "lands").ok()
 }
 
-// A row with an answer is a call of the storage, and one without sets a call to fail. There is no
-// upload between two rows.
-fn is_right(alloc: Global, store: &mut MemStore, row: &str) -> Option<bool> {
-    store.drop_upload();
+// A row with an answer is a call of the storage, and one without sets a call to fail.
+fn is_right(alloc: Global, store: &mut MemStore, row: &str) -> Option<bool>
+    requires { IsReady [] (state_of store.old) }
+    ensures { IsReady [] (state_of store.new) }
+{
     match row.split_once(" => ") {
         Some((call, wanted)) => is_answered(alloc, store, call, wanted),
         None => Some(set(alloc, store, row).is_some()),
@@ -29,7 +38,10 @@ fn is_right(alloc: Global, store: &mut MemStore, row: &str) -> Option<bool> {
 }
 
 // The first row that is answered otherwise.
-fn first_wrong<'a>(alloc: Global, store: &mut MemStore, table: &'a str) -> Option<&'a str> {
+fn first_wrong<'a>(alloc: Global, store: &mut MemStore, table: &'a str) -> Option<&'a str>
+    requires { IsReady [] (state_of store.old) }
+    ensures { IsReady [] (state_of store.new) }
+{
     for row in table.split('\n') {
         if is_right(alloc, store, row) != Some(true) {
             return Some(row);

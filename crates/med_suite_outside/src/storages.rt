@@ -4,7 +4,7 @@ ghost use Rattle.med_outside.specs.State.{IsReady};
 
 use crate::calls::first_wrong;
 use crate::places::write_many;
-use med_base::ObjPath;
+use med_base::{Layout, ObjPath};
 use med_folder::FolderStore;
 use med_mem::MemStore;
 use med_outside::Storage;
@@ -129,7 +129,11 @@ fn a_store_in_memory_lists_in_pages(rt: HostRuntime) {
     let mut store = MemStore::new(rt.alloc(), 1000, 1);
     assert_eq!(rt; add_many(rt.alloc(), &mut store, 2500), Some(()));
     store.drop_upload();
-    assert_eq!(rt; first_wrong(rt.alloc(), &mut store, PAGES), None);
+    let layout = Layout::plain(rt.alloc());
+    match store.open(rt.alloc(), "b", "k", &layout) {
+        Ok(()) => assert_eq!(rt; first_wrong(rt.alloc(), &mut store, PAGES), None),
+        Err(_) => panic!(rt; "the bucket isn't opened"),
+    }
 }
 
 #[test]
