@@ -13,7 +13,7 @@ use Rattle.med_base.specs.Kinds.{Entry, Kind, Latest, Meta, Own, Shared, Stray}
 use Rattle.med_base.specs.declared.kinds.LatestKind.{LatestKind}
 use Rattle.med_base.specs.declared.layout.MetaKind.{MetaKind}
 use Rattle.med_core.specs.After.{content_after, is_removed}
-use Rattle.med_core.specs.Removal.{changes_of_removal, is_content_of, is_entry_of, is_old, is_shared_of, paths_of_backup, paths_of_removal}
+use Rattle.med_core.specs.Removal.{changes_of_removal, is_content_of, is_old, is_shared_of, paths_of_backup, paths_of_removal}
 use Rattle.med_manifest.proofs.ByKind.{HasPath, IsProper, NameByKind, NodeByKind, Text, at, only}
 use Rattle.med_manifest.proofs.Elsewhere.{applied_append, deletes_get, get_elsewhere}
 use Rattle.med_manifest.proofs.Gets.{from_same, same_itself}
@@ -21,6 +21,7 @@ use Rattle.med_manifest.proofs.Members.{IsListed, all_filtered, all_listed, all_
 use Rattle.med_manifest.proofs.Newest.{and_first, and_second, mend_elsewhere}
 use Rattle.med_manifest.specs.Listed.{if_stands, paths_of, removes}
 use Rattle.med_manifest.specs.Mend.{changes_of_mend}
+use Rattle.med_manifest.specs.Rebuild.{is_entry_of}
 
 flat_map_all : {X Y : Type 0} (P : Y → Type 0) (g : X → List Y) (xs : List X)
     → AllByRecursion (λ x. AllByRecursion P (g x)) xs → AllByRecursion P (flat_map g xs)

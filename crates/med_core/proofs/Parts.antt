@@ -17,7 +17,7 @@ use Rattle.med_core.proofs.SafeByKind.{finish_with}
 use Rattle.med_core.proofs.Sections.{BegunByKind, IsUnder, ListByKind, RunByKind, RunOfParts, is_owned, part}
 use Rattle.med_core.specs.Finish.{Fresh, checked, is_stored_as, manifest_puts, with_placing, with_record}
 use Rattle.med_core.specs.Place.{placing, placing_over}
-use Rattle.med_core.specs.Removal.{changes_of_removal, is_content_of, is_entry_of, is_old, is_shared_of, old_unnamed, paths_of_backup}
+use Rattle.med_core.specs.Removal.{changes_of_removal, is_content_of, is_old, is_shared_of, old_unnamed, paths_of_backup}
 use Rattle.med_core.specs.Run.{next_content, next_running}
 use Rattle.med_core.specs.Section.{Abandon, Call, Claim, Done, Ending, Event, Finish, Halted, Place, Rebuild, Refused, Remove, Running, Stopped, Unsure}
 use Rattle.med_manifest.proofs.ByKind.{HasPath, IsFileOf, IsProper, KeyByKind, NameByKind, NodeByKind, Reads, StandsByKind, Text, at, files, folder, only, under}
@@ -30,7 +30,7 @@ use Rattle.med_manifest.specs.Index.{IsGiven, given, given_by, given_to}
 use Rattle.med_manifest.specs.Listed.{if_stands, paths_of, remove_if_stands, removes}
 use Rattle.med_manifest.specs.Mend.{changes_of_mend, finished_at, has_bytes, is_manifest_outside, latest_of, mend_to, mend_tokenmap, name_in, newest, put_unless, second_or_zero}
 use Rattle.med_manifest.specs.Named.{named}
-use Rattle.med_manifest.specs.Rebuild.{is_entry_of_node}
+use Rattle.med_manifest.specs.Rebuild.{is_entry_of, is_entry_of_node}
 use Rattle.med_manifest.specs.declared.manifest.FileRecord.{FileRecord}
 
 and_first : (a b : Bool) → (a && b) ≡ true → a ≡ true

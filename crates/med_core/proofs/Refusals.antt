@@ -5,9 +5,9 @@ use Rattle.std.proofs.lemmas.List.Elements.{All-contains, All-from_recursion}
 use Rattle.med_base.proofs.Lists.{all_split}
 use Rattle.med_base.specs.Content.{Content}
 use Rattle.med_base.specs.Effects.{Effect}
-use Rattle.med_core.specs.Outside.{DoAllRead, DoesRead, IsFirstUnread}
 use Rattle.med_core.specs.Section.{Abandon, AreIdle, Call, Claim, Finish, HasBadManifest, IsListOf, IsNoBackup, IsRefusedFor, IsRunning, IsTaken, Place, Rebuild, Refusal, Remove, Running}
 use Rattle.med_manifest.proofs.ByKind.{Text}
+use Rattle.med_manifest.specs.Reads.{DoAllRead, DoesRead, IsFirstUnread}
 
 unread_not_all : (before : Text) (c : Content) (f : Text) (names : List Text) (path : Text)
     → IsFirstUnread before c f names path → DoAllRead before c f names → ⊥

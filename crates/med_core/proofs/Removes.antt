@@ -16,7 +16,7 @@ use Rattle.med_core.proofs.Mends.{mend_fits, mended}
 use Rattle.med_core.proofs.Places.{own_unneeded, shared_kind}
 use Rattle.med_core.proofs.Sections.{HasNamed}
 use Rattle.med_core.proofs.Steps.{IsNeeded, IsUnlisted, file_not_manifest}
-use Rattle.med_core.specs.Removal.{changes_of_removal, is_content_of, is_entry_of, is_old, is_shared_of, old_unnamed, paths_of_backup}
+use Rattle.med_core.specs.Removal.{changes_of_removal, is_content_of, is_old, is_shared_of, old_unnamed, paths_of_backup}
 use Rattle.med_manifest.proofs.ByKind.{HasPath, IsFileOf, IsWholeBy, NameByKind, NodeByKind, StandsByKind, Text, at, manifest}
 use Rattle.med_manifest.proofs.Elsewhere.{get_elsewhere}
 use Rattle.med_manifest.proofs.Gets.{from_same, get_delete_other, get_delete_same, same_itself, same_path}
@@ -26,6 +26,7 @@ use Rattle.med_manifest.specs.Listed.{if_stands, paths_of, removes}
 use Rattle.med_manifest.specs.Mend.{changes_of_mend}
 use Rattle.med_manifest.specs.Named.{named}
 use Rattle.med_manifest.specs.declared.manifest.FileRecord.{FileRecord}
+use Rattle.med_manifest.specs.Rebuild.{is_entry_of}
 
 -- only deletes
 abbrev pub AreDeletes : List Effect → Type 0

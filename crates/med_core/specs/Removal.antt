@@ -6,15 +6,11 @@ use Rattle.std.specs.FinMap.{get}
 use Rattle.med_base.specs.declared.layout.MetaKind.TheVariants.{Schema, Differential, Tokenmap, Manifest}
 use Rattle.med_base.specs.Content.{Content, Object}
 use Rattle.med_base.specs.Effects.{Effect}
-use Rattle.med_base.specs.Kinds.{Kind, Shared, Own, Entry, Stray}
+use Rattle.med_base.specs.Kinds.{Kind, Shared, Own, Stray}
 use Rattle.med_base.specs.Layout.{meta_path}
 use Rattle.med_manifest.specs.Listed.{paths_of, if_stands, removes}
 use Rattle.med_manifest.specs.Mend.{changes_of_mend}
-
--- an entry that the index has of the backup
-abbrev pub is_entry_of : List ℕ → List ℕ → Kind → Bool
-is_entry_of f n (Entry g m kind) = bytes_eq g f && bytes_eq m n
-is_entry_of f n _ = false
+use Rattle.med_manifest.specs.Rebuild.{is_entry_of}
 
 -- in the folder of the backup, and none of the objects that tell of it
 abbrev pub is_content_of : List ℕ → List ℕ → Kind → Bool

@@ -14,12 +14,13 @@ use Rattle.med_base.specs.Layout.{backup_folder}
 use Rattle.med_manifest.specs.declared.manifest.FileRecord.{FileRecord}
 use Rattle.med_manifest.specs.Index.{Entries, IsGiven}
 use Rattle.med_manifest.specs.Manifest.{IsManifest, IsPathOf}
+use Rattle.med_manifest.specs.Reads.{DoAllRead, IsFirstUnread}
 use Rattle.med_manifest.specs.Rebuild.{changes_of_rebuild}
 use Rattle.med_manifest.specs.Vault.{IsBackup}
 use Rattle.med_manifest.specs.Written.{manifest_text}
 use Rattle.med_core.specs.Claim.{changes_of_claim}
 use Rattle.med_core.specs.Finish.{Fresh, checked, changes_of_finish}
-use Rattle.med_core.specs.Outside.{AreNamedOutside, DoAllRead, IsFirstUnread}
+use Rattle.med_core.specs.Outside.{AreNamedOutside}
 use Rattle.med_core.specs.Place.{placing}
 use Rattle.med_core.specs.Removal.{changes_of_removal}
 

@@ -1,5 +1,6 @@
 pub mod Errors
 pub mod Marks
 pub mod Modes
+pub mod Rebuilt
 pub mod Rows
 pub mod Visits

@@ -12,10 +12,12 @@ mod marks;
 mod meta;
 mod nodes;
 mod put;
+mod rebuild;
 mod running;
 mod walk;
 
 pub use backups::rows;
 pub use entries::{finish_entries, start_entries};
-pub use errors::ListError;
+pub use errors::{IndexError, ListError};
 pub use nodes::nodes_in;
+pub use rebuild::IndexReport;

@@ -5,6 +5,7 @@ pub mod Manifest
 pub mod Mend
 pub mod Named
 pub mod Places
+pub mod Reads
 pub mod Rebuild
 pub mod Refusals
 pub mod Seen

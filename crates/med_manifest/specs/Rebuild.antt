@@ -1,5 +1,5 @@
 -- The changes that make the index of a node just what its backups give.
-use Rattle.std.specs.Prelude.{ℕ, Bool, false, not, List, [], ◌∷◌, ◌++◌, filter, Option, Some, None, bytes_eq}
+use Rattle.std.specs.Prelude.{ℕ, Bool, false, not, ◌&&◌, List, [], ◌∷◌, ◌++◌, filter, Option, Some, None, bytes_eq}
 use Rattle.std.specs.FinMap.{get, keys, contains_key}
 use Rattle.med_base.specs.Content.{Content}
 use Rattle.med_base.specs.Effects.{Effect}
@@ -12,6 +12,11 @@ use Rattle.med_manifest.specs.Mend.{put_unless, changes_of_mend}
 abbrev pub is_entry_of_node : List ℕ → Kind → Bool
 is_entry_of_node f (Entry g n kind) = bytes_eq g f
 is_entry_of_node f _ = false
+
+-- an entry that the index has of the backup
+abbrev pub is_entry_of : List ℕ → List ℕ → Kind → Bool
+is_entry_of f n (Entry g m kind) = bytes_eq g f && bytes_eq m n
+is_entry_of f n _ = false
 
 -- the paths of the entries that stand and aren't given
 abbrev pub not_given : List ℕ → Content → List ℕ → Entries → List (List ℕ)
