@@ -16,6 +16,7 @@ pub mod PlaceLemmas
 pub mod Rebuilds
 pub mod RecordLemmas
 pub mod Refused
+pub mod Rising
 pub mod Starts
 pub mod Tables
 pub mod TreeLemmas

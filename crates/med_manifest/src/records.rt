@@ -1,8 +1,10 @@
 // What the files that a text names are in a backup.
-ghost use Rattle.std.specs.Prelude.{◌≡◌, ◌++◌, ◌∷◌, [], false, true, IfOk, OnOk, IfErr, IfSome, List, ℕ, map, length, None, option_map};
+ghost use Rattle.std.specs.Prelude.{◌≡◌, ◌++◌, ◌∷◌, [], false, true, IfOk, OnOk, IfErr, IfSome, IsTrue, List, ℕ, map, length, None, option_map};
 ghost use Rattle.med_base.specs.declared.key.FileKey.{FileKey};
 ghost use Rattle.std.specs.BTreeSet.{contains, Updates};
-ghost use Rattle.med_base.specs.Key.{key_cmp};
+ghost use Rattle.std.specs.List.{AllByRecursion};
+ghost use Rattle.std.specs.declared.cmp.Ordering.TheVariants.{Less};
+ghost use Rattle.med_base.specs.Key.{key_cmp, AreRising};
 ghost use Rattle.med_base.specs.Kinds.{as_data};
 ghost use Rattle.med_base.specs.Memory.{WhyIs};
 ghost use Rattle.med_base.specs.Names.{component_fault};
@@ -155,8 +157,45 @@ fn add(
     Ok(())
 }
 
-/// What the named files are in the backup.
-pub(crate) fn records_of(
+// Whether a key is above that of the last of these records.
+fn is_above(key: &FileKey, records: &[FileRecord]) -> bool
+    ensures { IsTrue result → AreRising (map (λ r. r.key) records.now)
+        → AllByRecursion (λ k. key_cmp k key.now ≡ Less) (map (λ r. r.key) records.now) }
+{
+    if let [.., last] = records {
+        last.key < *key
+    } else {
+        true
+    }
+}
+
+// What the named files are in the backup, if each key is above the one before it. No key is looked
+// for among those seen.
+fn rising_records(
+    alloc: Global,
+    layout: &Layout,
+    node: &Fqdn,
+    name: &BackupName,
+    files: &[NamedFile<'_>],
+) -> Result<Option<Vec<FileRecord>>, ManifestError>
+    ensures ok { IfOk result (λ o. IfSome o (λ records. AreRecords layout.now node.now name.now
+        (map named files.now) records.items)) }
+    ensures err { IfErr result
+        (WhyIs (IsFirstFault layout.now node.now name.now (map named files.now))) }
+{
+    let mut records = Vec::new(alloc);
+    for (at, raw) in files.iter().enumerate() {
+        let file = record_of(alloc, layout, node, name, raw, at)?;
+        if !is_above(&file.key, records.as_slice()) {
+            return Ok(None);
+        }
+        records.push(file)?;
+    }
+    Ok(Some(records))
+}
+
+// What the named files are in the backup, in whatever order their keys stand.
+fn records_in_any_order(
     alloc: Global,
     layout: &Layout,
     node: &Fqdn,
@@ -175,4 +214,23 @@ pub(crate) fn records_of(
         add(alloc, &mut seen, &mut records, record)?;
     }
     Ok(records)
+}
+
+/// What the named files are in the backup.
+pub(crate) fn records_of(
+    alloc: Global,
+    layout: &Layout,
+    node: &Fqdn,
+    name: &BackupName,
+    files: &[NamedFile<'_>],
+) -> Result<Vec<FileRecord>, ManifestError>
+    ensures ok { IfOk result (λ records. AreRecords layout.now node.now name.now
+        (map named files.now) records.items) }
+    ensures err { IfErr result
+        (WhyIs (IsFirstFault layout.now node.now name.now (map named files.now))) }
+{
+    match rising_records(alloc, layout, node, name, files)? {
+        Some(records) => Ok(records),
+        None => records_in_any_order(alloc, layout, node, name, files),
+    }
 }

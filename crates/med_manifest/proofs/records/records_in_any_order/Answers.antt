@@ -7,7 +7,7 @@ use Rattle.med_manifest.specs.declared.shape.NamedFile.{NamedFile}
 use Rattle.med_manifest.specs.Named.{named}
 use Rattle.med_manifest.specs.Refusals.{IsFirstFault}
 use Rattle.med_manifest.proofs.RecordLemmas.{none_distinct, nothing, keys_of, first_fault, seen_fault, records_next, seen_next}
-use Rattle.med_manifest.proofs.records.records_of.Goals as goal
+use Rattle.med_manifest.proofs.records.records_in_any_order.Goals as goal
 
 pub loop-at-init : goal.loop-at-init
 loop-at-init c = record {

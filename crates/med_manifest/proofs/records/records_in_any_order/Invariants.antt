@@ -6,7 +6,7 @@ use Rattle.med_base.specs.Key.{key_cmp, key_eq}
 use Rattle.med_manifest.specs.declared.manifest.FileRecord.{FileRecord}
 use Rattle.med_manifest.specs.Manifest.{AreRecords}
 use Rattle.med_manifest.specs.Named.{named}
-use Rattle.med_manifest.proofs.records.records_of.Given as goal
+use Rattle.med_manifest.proofs.records.records_in_any_order.Given as goal
 
 -- the records so far are those of the files so far, and their keys were seen
 abbrev pub invariant-loop-at : goal.invariant-loop-at
