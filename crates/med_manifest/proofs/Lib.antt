@@ -19,5 +19,6 @@ pub mod Refused
 pub mod Rising
 pub mod Starts
 pub mod Tables
+pub mod TokenLemmas
 pub mod TreeLemmas
 pub mod WholeLemmas

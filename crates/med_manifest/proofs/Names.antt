@@ -16,7 +16,7 @@ use Rattle.med_json.proofs.TreeLemmas.{items_in-of}
 use Rattle.med_manifest.specs.declared.manifest.FileRecord.{FileRecord}
 use Rattle.med_manifest.specs.Manifest.{IsPathOf, IsRecordOf, IsManifest}
 use Rattle.med_manifest.specs.Named.{Named, IsFile, IsTable, NamesFiles}
-use Rattle.med_manifest.specs.Written.{HaveDigests, Table, tables, with_file, is_same_table, file_data, table_data, manifest_data}
+use Rattle.med_manifest.specs.Written.{HaveFingerprints, Table, tables, with_file, is_same_table, file_data, table_data, manifest_data}
 use Rattle.med_manifest.proofs.Tables.{same_names}
 
 -- the file as `write` names it
@@ -166,7 +166,7 @@ spelled md5 sixteen bytes =
 each_record : (before f n : List ℕ) (rs : List FileRecord)
     → AllByRecursion (λ (r : FileRecord). IsKey r.key) rs
     → AllByRecursion (λ (r : FileRecord). IsPathOf before f n r.key r.path) rs
-    → HaveDigests rs
+    → HaveFingerprints rs
     → AllZip (IsRecordOf before f n) (map named_of rs) rs
 each_record before f n [] keys places digests = tt
 each_record before f n (r ∷ rs) keys places digests =
@@ -179,7 +179,7 @@ each_record before f n (r ∷ rs) keys places digests =
       };
       path_is = refl;
       size_is = refl;
-      md5_is = spelled r.fingerprint.md5 digests.0.length digests.0.bytes;
+      md5_is = spelled r.fingerprint.md5 digests.0.digest.length digests.0.digest.bytes;
     } in
     (is, each_record before f n rs keys.1 places.1 digests.1)
 
@@ -198,7 +198,7 @@ distinct (k ∷ ks) rise = (unequal_to_later k ks rise.0, distinct ks rise.1)
 -- a text that reads as the tree of these files is a manifest with them
 pub is_manifest : (before f n text : List ℕ) (files : List FileRecord) → IsUtf8 text
     → read text ≡ Some (manifest_data files) → AreRising (map (λ (r : FileRecord). r.key) files)
-    → HaveDigests files
+    → HaveFingerprints files
     → AllByRecursion (λ (r : FileRecord). IsKey r.key) files
     → AllByRecursion (λ (r : FileRecord). IsPathOf before f n r.key r.path) files
     → IsManifest before f n text files

@@ -9,7 +9,7 @@ use Rattle.std.proofs.lemmas.Bool.{and_parts}
 use Rattle.serde_json.specs.Data.{Data}
 use Rattle.med_base.proofs.Bools.{same_bytes}
 use Rattle.med_manifest.specs.declared.manifest.FileRecord.{FileRecord}
-use Rattle.med_manifest.specs.Written.{IsDigest, HaveDigests, Table, tables, with_file, is_same_table, table_data}
+use Rattle.med_manifest.specs.Written.{IsFingerprint, HaveFingerprints, Table, tables, with_file, is_same_table, table_data}
 
 -- two files of one table have its names
 pub same_names : (f g : FileRecord) → is_same_table f g ≡ true
@@ -72,19 +72,19 @@ next_table told next d xs after others left f n le is tail count front back show
 -- ---- digests
 
 pub digests_more : (xs : List FileRecord) (i : ℕ) (x : FileRecord) → i < length xs
-    → x ≡ get_or xs i x → HaveDigests (take i xs) → IsDigest x.fingerprint.md5
-    → HaveDigests (take (i + 1) xs)
+    → x ≡ get_or xs i x → HaveFingerprints (take i xs) → IsFingerprint x.fingerprint
+    → HaveFingerprints (take (i + 1) xs)
 digests_more xs i x lt at all is =
-    subst HaveDigests
+    subst HaveFingerprints
     (sym (take_more xs i x lt ∙ ap (λ (y : FileRecord). take i xs ++ y ∷ []) (sym at)))
     (join (take i xs) (x ∷ []) all (is, tt))
   where
-    join : (us bs : List FileRecord) → HaveDigests us → HaveDigests bs → HaveDigests (us ++ bs)
+    join : (us bs : List FileRecord) → HaveFingerprints us → HaveFingerprints bs → HaveFingerprints (us ++ bs)
     join [] bs p q = q
     join (a ∷ us) bs p q = (p.0, join us bs p.1 q)
 
-digests_join : (n : ℕ) (xs : List FileRecord) → HaveDigests (take n xs)
-    → HaveDigests (drop n xs) → HaveDigests xs
+digests_join : (n : ℕ) (xs : List FileRecord) → HaveFingerprints (take n xs)
+    → HaveFingerprints (drop n xs) → HaveFingerprints xs
 digests_join n [] p q = tt
 digests_join zero (x ∷ xs) p q = q
 digests_join (suc n) (x ∷ xs) p q = (p.0, digests_join n xs p.1 q)
@@ -92,12 +92,12 @@ digests_join (suc n) (x ∷ xs) p q = (p.0, digests_join n xs p.1 q)
 -- the files of a table, and those that are left
 pub digests_rest : (xs after others left : List FileRecord) (f : FileRecord) (n : ℕ)
     → 1 ≤ length xs → f ≡ get_or xs 0 f → after ≡ drop 1 xs → others ≡ take n after
-    → left ≡ drop n after → HaveDigests (f ∷ others) → HaveDigests left → HaveDigests xs
+    → left ≡ drop n after → HaveFingerprints (f ∷ others) → HaveFingerprints left → HaveFingerprints xs
 digests_rest [] after others left f n le is tail front back here more = tt
 digests_rest (x ∷ xs) after others left f n le is tail front back here more =
-    let first : IsDigest x.fingerprint.md5 =
-    subst (λ (g : FileRecord). IsDigest g.fingerprint.md5) is here.0 in
-    let taken : HaveDigests (take n xs) =
-    subst HaveDigests (front ∙ ap (take n) tail) here.1 in
-    let dropped : HaveDigests (drop n xs) = subst HaveDigests (back ∙ ap (drop n) tail) more in
+    let first : IsFingerprint x.fingerprint =
+    subst (λ (g : FileRecord). IsFingerprint g.fingerprint) is here.0 in
+    let taken : HaveFingerprints (take n xs) =
+    subst HaveFingerprints (front ∙ ap (take n) tail) here.1 in
+    let dropped : HaveFingerprints (drop n xs) = subst HaveFingerprints (back ∙ ap (drop n) tail) more in
     (first, digests_join n xs taken dropped)

@@ -9,6 +9,7 @@ pub mod Reads
 pub mod Rebuild
 pub mod Refusals
 pub mod Seen
+pub mod Tokens
 pub mod Vault
 pub mod Whole
 pub mod Written

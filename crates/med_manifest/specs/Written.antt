@@ -1,12 +1,13 @@
 -- The canonical text of a manifest: a JSON list of tables, each with its files, with no space.
 -- This project's own form: keys in byte order, tables and files in order of their keys.
-use Rattle.std.specs.Prelude.{◌≡◌, ◌<◌, ℕ, Bool, ◌&&◌, length, slice_index, List, [], ◌∷◌, map, codes, if◌then◌else◌}
+use Rattle.std.specs.Prelude.{◌≡◌, ◌<◌, ◌^◌, ℕ, Bool, ◌&&◌, length, slice_index, List, [], ◌∷◌, map, codes, if◌then◌else◌}
 use Rattle.std.specs.List.{AllByRecursion}
 use Rattle.std.specs.Str.{bytes_eq}
 use Rattle.hex.specs.Hex.{encode_lower}
 use Rattle.serde_json.specs.Data.{Data, string, number, unsigned, array, object, member, no_members}
 use Rattle.serde_json.specs.View.{items_of}
 use Rattle.serde_json.specs.Written.{compact_text}
+use Rattle.med_base.specs.declared.fingerprint.Fingerprint.{Fingerprint}
 use Rattle.med_manifest.specs.declared.manifest.FileRecord.{FileRecord}
 
 -- files of one table, the first of them named too
@@ -52,6 +53,11 @@ pub record IsDigest (md5 : List ℕ) : Type 0 where
   pub length : length md5 ≡ 16
   pub bytes : (i : ℕ) → slice_index md5 i < 256
 
--- the digest of each of the files is
-abbrev pub HaveDigests : List FileRecord → Type 0
-HaveDigests files = AllByRecursion (λ (r : FileRecord). IsDigest r.fingerprint.md5) files
+-- the size is below 2 ^ 64, and the digest is one
+pub record IsFingerprint (print : Fingerprint) : Type 0 where
+  pub size : print.size < 2 ^ 64
+  pub digest : IsDigest print.md5
+
+-- the fingerprint of each of the files is
+abbrev pub HaveFingerprints : List FileRecord → Type 0
+HaveFingerprints files = AllByRecursion (λ (r : FileRecord). IsFingerprint r.fingerprint) files

@@ -13,7 +13,7 @@ ghost use Rattle.med_manifest.specs.Refusals.{IsRefused, IsNoManifest};
 use crate::ManifestError;
 use crate::records::records_of;
 use crate::shape::{named_files, read_tree};
-use crate::written::manifest_value;
+use crate::written::manifest_bytes;
 use med_base::{BackupName, FileKey, Fingerprint, Fqdn, Layout, NoMemory, ObjPath};
 use std::alloc::Global;
 
@@ -54,9 +54,8 @@ impl Manifest {
             → (files : List FileRecord) → IsManifest before f n text.items files
             → files ≡ self.now.files.items) }
     {
-        let value = manifest_value(alloc, self.files.as_slice())?;
-        let text = value.to_string(alloc)?;
-        Ok(text.into_bytes())
+        let text = manifest_bytes(alloc, self.files.as_slice())?;
+        Ok(text)
     }
     /// The files of which these bytes are the manifest, in the order of the text, for the backup of
     /// that name and node. The text may have its keys in any order and others beside them; of a
