@@ -1,21 +1,9 @@
--- The tree of a manifest has no float, and nests no deeper than a reader follows.
-use Rattle.std.proofs.Common.{◌≡◌, ◌≤◌, false, List, [], ◌∷◌, map, refl, arith}
-use Rattle.serde_json.specs.Written.{has_float, items_have_float}
+-- The tree of a manifest nests no deeper than a reader follows.
+use Rattle.std.proofs.Common.{◌≤◌, List, [], ◌∷◌, map, arith}
 use Rattle.serde_json.specs.Data.{depth, items_depth}
 use Rattle.serde_json.specs.View.{items_of}
 use Rattle.med_manifest.specs.declared.manifest.FileRecord.{FileRecord}
 use Rattle.med_manifest.specs.Written.{Table, tables, file_data, table_data, manifest_data}
-
-files_no_float : (fs : List FileRecord) → items_have_float (items_of (map file_data fs)) ≡ false
-files_no_float [] = refl
-files_no_float (f ∷ fs) = files_no_float fs
-
-tables_no_float : (ts : List Table) → items_have_float (items_of (map table_data ts)) ≡ false
-tables_no_float [] = refl
-tables_no_float (t ∷ ts) = rw (files_no_float t.files) (tables_no_float ts)
-
-pub no_float : (fs : List FileRecord) → has_float (manifest_data fs) ≡ false
-no_float fs = tables_no_float (tables fs)
 
 files_depth : (fs : List FileRecord) → items_depth (items_of (map file_data fs)) ≤ 1
 files_depth [] = omega arith

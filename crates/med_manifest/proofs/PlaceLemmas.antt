@@ -19,6 +19,13 @@ some_from : {X : Type 0} (b : Bool) (x y : X) → (if b then Some x else None) �
 some_from true x y e = (refl, cc)
 some_from false x y e = absurd (cc)
 
+-- a key of the table of the named file has its names
+pub same_table : (file : Named) (key : FileKey) → is_of_table file key ≡ true
+    → (key.keyspace ≡ file.keyspace) × (key.table ≡ file.table)
+same_table file key e =
+    let parts = and_parts _ _ e in
+    (same_bytes key.keyspace file.keyspace parts.0, same_bytes key.table file.table parts.1)
+
 -- a key of the table of the named file is told by its file
 key_is : (file : Named) (key : FileKey) → is_of_table file key ≡ true
     → key ≡ key_told file key.file

@@ -84,6 +84,30 @@ fn component(alloc: Global, text: &str) -> Result<Component, NoMemory>
     }
 }
 
+// The keyspace and the table of the named file. Where the last record before it is of the same
+// table, they are copied from there.
+fn table_of(
+    alloc: Global,
+    raw: &NamedFile<'_>,
+    earlier: &[FileRecord],
+) -> Result<(Component, Component), NoMemory>
+    requires { (component_fault raw.now.keyspace.now ≡ None)
+        × (component_fault raw.now.table.now ≡ None) }
+    ensures { IfOk result (λ names. (names.0 ≡ raw.now.keyspace.now)
+        × (names.1 ≡ raw.now.table.now)) }
+{
+    if let [.., last] = earlier {
+        let (keyspace, table) = (&last.key.keyspace, &last.key.table);
+        if is_of_table_of(raw, keyspace.as_str(), table.as_str()) {
+            return Ok((keyspace.copy(alloc)?, table.copy(alloc)?));
+        }
+    }
+    Ok((
+        component(alloc, raw.keyspace)?,
+        component(alloc, raw.table)?,
+    ))
+}
+
 // The key of the named file, if the backup has a file of its table at its path.
 fn key_at(
     alloc: Global,
@@ -92,6 +116,7 @@ fn key_at(
     name: &BackupName,
     raw: &NamedFile<'_>,
     path: &ObjPath,
+    earlier: &[FileRecord],
 ) -> Result<Option<FileKey>, NoMemory>
     requires { path.now ≡ raw.now.path.now }
     ensures found { IfOk result
@@ -102,14 +127,17 @@ fn key_at(
     let Some(file) = file_at(layout, node, name, raw, path) else {
         return Ok(None);
     };
+    let (keyspace, table) = table_of(alloc, raw, earlier)?;
+    let file = component(alloc, file)?;
     Ok(Some(FileKey {
-        keyspace: component(alloc, raw.keyspace)?,
-        table: component(alloc, raw.table)?,
-        file: component(alloc, file)?,
+        keyspace,
+        table,
+        file,
     }))
 }
 
-// What the named file is in the backup, where `at` files stand before it.
+// What the named file is in the backup, where `at` files stand before it, which are the earlier
+// records.
 fn record_of(
     alloc: Global,
     layout: &Layout,
@@ -117,6 +145,7 @@ fn record_of(
     name: &BackupName,
     raw: &NamedFile<'_>,
     at: usize,
+    earlier: &[FileRecord],
 ) -> Result<FileRecord, ManifestError>
     ensures ok { IfOk result (IsRecordOf layout.now node.now name.now (named raw.now)) }
     ensures err { IfErr result (λ e. (earlier : List FileRecord) → length earlier ≡ at
@@ -126,7 +155,7 @@ fn record_of(
         return Err(ManifestError::Why(ManifestWhy::BadDigest { at }));
     };
     let path = ObjPath::of(alloc, raw.path)?;
-    let Some(key) = key_at(alloc, layout, node, name, raw, &path)? else {
+    let Some(key) = key_at(alloc, layout, node, name, raw, &path, earlier)? else {
         return Err(ManifestError::Why(ManifestWhy::ForeignPath { path }));
     };
     let size = raw.size;
@@ -185,8 +214,9 @@ fn rising_records(
 {
     let mut records = Vec::new(alloc);
     for (at, raw) in files.iter().enumerate() {
-        let file = record_of(alloc, layout, node, name, raw, at)?;
-        if !is_above(&file.key, records.as_slice()) {
+        let earlier = records.as_slice();
+        let file = record_of(alloc, layout, node, name, raw, at, earlier)?;
+        if !is_above(&file.key, earlier) {
             return Ok(None);
         }
         records.push(file)?;
@@ -210,7 +240,7 @@ fn records_in_any_order(
     let mut seen = BTreeSet::new(alloc);
     let mut records = Vec::new(alloc);
     for (at, raw) in files.iter().enumerate() {
-        let record = record_of(alloc, layout, node, name, raw, at)?;
+        let record = record_of(alloc, layout, node, name, raw, at, records.as_slice())?;
         add(alloc, &mut seen, &mut records, record)?;
     }
     Ok(records)

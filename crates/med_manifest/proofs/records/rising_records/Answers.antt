@@ -34,11 +34,11 @@ loop-at-preserved c =
     let file = c.in_ok-file.file in
     let earlier = c.loop-at.records.items in
     let above : IsTrue c.is_above.result = search rules in
-    let rising : AreRising (keys_of c.as_slice.result.now) =
-    subst (λ rs. AreRising (keys_of rs)) (sym c.as_slice.ensures.value)
+    let rising : AreRising (keys_of c.as_slice-earlier.result.now) =
+    subst (λ rs. AreRising (keys_of rs)) (sym c.as_slice-earlier.ensures.value)
     c.loop-at.invariant.rising in
     let below : AreBelow (keys_of earlier) file.key =
-    subst (λ rs. AreBelow (keys_of rs) file.key) c.as_slice.ensures.value
+    subst (λ rs. AreBelow (keys_of rs) file.key) c.as_slice-earlier.ensures.value
     (c.is_above.ensures above rising) in
     record {
       are =
