@@ -38,11 +38,7 @@ with_opened of counts = record {
 
 -- one that was opened for this was closed; it changes nothing where none of these is open
 abbrev pub with_closed : Tagged → SnapshotCounts → SnapshotCounts
-with_closed of counts = record {
-  opened = counts.opened;
-  still_open = without_first of counts.still_open;
-  last = counts.last;
-}
+with_closed of counts = record counts { still_open = without_first of counts.still_open }
 
 -- what a call that opens a snapshot leaves: one more was opened, unless it was refused
 abbrev pub after_open : {T : Type 0} → Result T Denied → Tagged → SnapshotCounts → SnapshotCounts
@@ -51,8 +47,4 @@ after_open (Err denied) of counts = counts
 
 -- this one snapshot was opened, and closed again
 abbrev pub opened_once : Tagged → SnapshotCounts → SnapshotCounts
-opened_once of counts = record {
-  opened = one_more counts.opened;
-  still_open = counts.still_open;
-  last = of;
-}
+opened_once of counts = record counts { opened = one_more counts.opened; last = of }

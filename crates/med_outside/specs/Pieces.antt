@@ -29,17 +29,8 @@ begun path = record { path = path; bytes = [] }
 -- the same upload with more bytes
 abbrev pub with_piece : List ℕ → Option Upload → Option Upload
 with_piece piece upload =
-    option_map (λ (u : Upload). record { path = u.path; bytes = u.bytes ++ piece }) upload
+    option_map (λ (u : Upload). record u { bytes = u.bytes ++ piece }) upload
 
 -- the same storage with that upload
 abbrev pub with_upload : Option Upload → State → State
-with_upload upload s = record {
-  content = s.content;
-  second = s.second;
-  never_falls = s.never_falls;
-  room = s.room;
-  upload = upload;
-  faults = s.faults;
-  step = s.step;
-  terms = s.terms;
-}
+with_upload upload s = record s { upload = upload }

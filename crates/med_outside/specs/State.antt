@@ -129,37 +129,15 @@ pub record IsReady (layout : List ℕ) (s : State) : Type 0 where
 -- ---- the same storage, but for one meaning
 
 abbrev pub with_bucket : OpenBucket → State → State
-with_bucket bucket s = record {
-  content = s.content;
-  second = s.second;
-  never_falls = s.never_falls;
-  room = s.room;
-  upload = s.upload;
-  faults = s.faults;
-  step = s.step;
-  terms = record { bucket = bucket; lent = s.terms.lent; owner = s.terms.owner };
-}
+with_bucket bucket s = record s { terms = record s.terms { bucket = bucket } }
 
 abbrev pub with_room : Option ℕ → State → State
-with_room room s = record {
-  content = s.content;
-  second = s.second;
-  never_falls = s.never_falls;
-  room = room;
-  upload = s.upload;
-  faults = s.faults;
-  step = s.step;
-  terms = s.terms;
-}
+with_room room s = record s { room = room }
 
 -- a bucket that is open under a layout, where so many were opened
 abbrev pub bucket_of : (base bucket layout : List ℕ) (opens : ℕ) → OpenBucket
-bucket_of base bucket layout opens = record {
-  base = base;
-  name = bucket;
-  layout = layout;
-  opens = opens;
-}
+bucket_of base bucket layout opens =
+    record { base = base; name = bucket; layout = layout; opens = opens }
 
 -- one more bucket was opened, under a layout
 abbrev pub opened : (base bucket layout : List ℕ) → State → State

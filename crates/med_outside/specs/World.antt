@@ -48,13 +48,8 @@ pub record World : Type 1 where
   pub out : SinkState
 
 abbrev pub world : FilesState → NodesState → State → History → SinkState → World
-world files nodes store stood out = record {
-  files = files;
-  nodes = nodes;
-  store = store;
-  stood = stood;
-  out = out;
-}
+world files nodes store stood out =
+    record { files = files; nodes = nodes; store = store; stood = stood; out = out }
 
 -- which counts of faults rose between two worlds; there may be no memory at any time
 abbrev pub rose_of : World → World → Device → Type 0
