@@ -1,7 +1,7 @@
 -- How copying ends, step by step.
 use Rattle.std.proofs.Common.{◌≡◌, inl, inr, ℕ, List, ◌∷◌, Option, Result, Ok, Err, refl, subst, ◌≤◌, arith}
 use Rattle.med_base.specs.declared.key.FileKey.{FileKey}
-use Rattle.med_base.specs.declared.layout.MetaKind.TheVariants.{Manifest}
+use Rattle.med_base.specs.declared.layout.MetaKind.TheVariants.{Schema, Manifest}
 use Rattle.med_base.specs.Layout.{meta_path}
 use Rattle.med_manifest.specs.declared.manifest.FileRecord.{FileRecord}
 use Rattle.med_manifest.specs.Written.{manifest_text}
@@ -11,7 +11,7 @@ use Rattle.med_outside.specs.Snapshot.{Snapshot}
 use Rattle.med_outside.specs.State.{State, History}
 use Rattle.med_outside.specs.World.{rose_of_node}
 use Rattle.med_outside.proofs.Passing.{moves_at_rest}
-use Rattle.med_backup.specs.Copies.{ChangeLists, IsPut, OrNothing, IsMadeBy, IsSchemaPut, IsManifestPut, ArePut, AreFirstPut, HasFiles, HasAll}
+use Rattle.med_backup.specs.Copies.{ChangeLists, IsPut, OrNothing, IsMadeBy, IsMetaPut, ArePut, AreFirstPut, HasFiles, HasAll}
 use Rattle.med_backup.specs.Errors.{device_of, stop_of_fault}
 use Rattle.med_backup.specs.Plan.{Passed, copy_plan}
 use Rattle.med_backup.specs.declared.place.CopyFault.{CopyFault}
@@ -27,13 +27,13 @@ Copies before f n held order =
 module _ (before f n : List ℕ) (held : Option Snapshot) (order : List FileKey) (schema : List ℕ)
     (rose : Device → Type 0) where
   abbrev first : ChangeLists
-  first = IsSchemaPut before f n schema
+  first = IsMetaPut before f n Schema schema
 
   abbrev files_put : List FileRecord → ChangeLists
   files_put files = ArePut before f n held order files
 
   abbrev manifest_put : List FileRecord → ChangeLists
-  manifest_put files = IsManifestPut before f n files
+  manifest_put files = IsMetaPut before f n Manifest (manifest_text files)
 
   -- the schema was put, and copying the files stopped
   pub files_stopped : (stop : Stop) (s0 s1 s2 : State) (p0 p1 p2 : History)

@@ -1,6 +1,6 @@
 -- A backup whose puts were all made is finished and whole, and is one of the snapshot.
 use Rattle.std.proofs.Common.{◌≡◌, ℕ, true, List, [], ◌∷◌, ◌++◌, map, Option, Some, None, refl, ap, ◌∙◌, subst}
-use Rattle.std.specs.Prelude.{is_some, IsTrue}
+use Rattle.std.specs.Prelude.{is_some, option_map, IsTrue}
 use Rattle.std.specs.List.{AllByRecursion}
 use Rattle.std.specs.FinMap.{get, keys}
 use Rattle.med_base.specs.declared.key.FileKey.{FileKey}
@@ -108,32 +108,30 @@ module _ (before f n schema : List ℕ) (at end : ℕ) (c : Content)
   all_stand copies rising names = files_stand copies (texts copies)
       (applied (Stores (meta_path before f n Schema) schema at ∷ []) c) rising names
 
-  schema_stands : (copies : List Copy)
-      → HoldsBytes (left copies) (meta_path before f n Schema) schema
-  schema_stands copies = record {
-    second = at;
-    stands = put_stays (meta_path before f n Schema) schema at
-        (map (put_of before f n) copies ++ last (texts copies)) c
-        (all_append (λ (x : Effect). meta_path before f n Schema ≡ path_of x → ⊥)
-        (map (put_of before f n) copies) (last (texts copies))
-        (meta_apart before f n Schema copies) ((λ e. schema_or_manifest before f n e), tt));
-  }
+  schema_stands : (copies : List Copy) → get (left copies) (meta_path before f n Schema)
+      ≡ Some (record { bytes = schema; second = at })
+  schema_stands copies = put_stays (meta_path before f n Schema) schema at
+      (map (put_of before f n) copies ++ last (texts copies)) c
+      (all_append (λ (x : Effect). meta_path before f n Schema ≡ path_of x → ⊥)
+      (map (put_of before f n) copies) (last (texts copies))
+      (meta_apart before f n Schema copies) ((λ e. schema_or_manifest before f n e), tt))
 
-  manifest_stands : (copies : List Copy)
-      → HoldsBytes (left copies) (meta_path before f n Manifest) (texts copies)
-  manifest_stands copies = record {
-    second = end;
-    stands = last_put (meta_path before f n Manifest) (texts copies) end
-        (Stores (meta_path before f n Schema) schema at ∷ map (put_of before f n) copies) c;
-  }
+  manifest_stands : (copies : List Copy) → get (left copies) (meta_path before f n Manifest)
+      ≡ Some (record { bytes = texts copies; second = end })
+  manifest_stands copies = last_put (meta_path before f n Manifest) (texts copies) end
+      (Stores (meta_path before f n Schema) schema at ∷ map (put_of before f n) copies) c
+
+  -- an object that stands holds its bytes
+  holds : (d : Content) (path : List ℕ) (o : Object) → get d path ≡ Some o
+      → HoldsBytes d path o.bytes
+  holds d path o e = ap (option_map (λ (p : Object). p.bytes)) e
 
   has_manifest : (copies : List Copy)
       → IsManifest before f n (texts copies) (records_of before f n copies)
       → HasManifest before f n (left copies) (records_of before f n copies)
-  unfolding manifest_stands
   has_manifest copies names = record {
     object = record { bytes = texts copies; second = end };
-    stands = (manifest_stands copies).stands;
+    stands = manifest_stands copies;
     names = names;
   }
 
@@ -188,10 +186,10 @@ module _ (before f n schema : List ℕ) (at end : ℕ) (c : Content)
       ),
     );
     stand = (
-      some_there (get (left copies) (meta_path before f n Schema)) _ (schema_stands copies).stands,
+      some_there (get (left copies) (meta_path before f n Schema)) _ (schema_stands copies),
       (
         some_there (get (left copies) (meta_path before f n Manifest)) _
-            (manifest_stands copies).stands,
+            (manifest_stands copies),
         own_there (left copies) copies stand,
       ),
     );
@@ -214,7 +212,7 @@ module _ (before f n schema : List ℕ) (at end : ℕ) (c : Content)
           manifest = has_manifest copies manifest;
           stored = stored_by (left copies) copies stand;
         };
-        text = manifest_stands copies;
+        text = holds (left copies) (meta_path before f n Manifest) _ (manifest_stands copies);
         adds = adds_copies copies stand;
       }
 
@@ -228,7 +226,7 @@ module _ (before f n schema : List ℕ) (at end : ℕ) (c : Content)
       bytes = k.bytes;
       file_is = of.0;
       print_is = refl;
-      held = λ was_free. record { second = k.second; stands = stand.0 };
+      held = λ was_free. holds d (own_path before f n k.key) _ stand.0;
     },
     files_of s d copies of.1 stand.1,
   )
@@ -244,5 +242,5 @@ module _ (before f n schema : List ℕ) (at end : ℕ) (c : Content)
     keys_are = keys_of_records before f n copies ∙ keys_are;
     files_are = files_of s (left copies) copies of (all_stand copies rising names);
     schema_is = subst (HoldsBytes (left copies) (meta_path before f n Schema)) schema_is
-        (schema_stands copies);
+        (holds (left copies) (meta_path before f n Schema) _ (schema_stands copies));
   }

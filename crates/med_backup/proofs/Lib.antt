@@ -7,6 +7,7 @@ pub mod Finished
 pub mod KeyLists
 pub mod LookSteps
 pub mod Made
+pub mod MadeOf
 pub mod NodeSteps
 pub mod Placed
 pub mod Sending

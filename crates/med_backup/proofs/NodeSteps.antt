@@ -10,8 +10,8 @@ use Rattle.med_outside.specs.State.{State, Changes, ChangesWithin, History}
 use Rattle.med_outside.specs.World.{NodesState, rose_of_node}
 use Rattle.med_outside.proofs.EndsLemmas.{carried, goes_on}
 use Rattle.med_outside.proofs.Passing.{after_all-nothing}
-use Rattle.med_backup.specs.BackedUp.{IsFound, IsBackedUpFrom}
-use Rattle.med_backup.specs.Copies.{ChangeLists, IsMadeBy, HasAll}
+use Rattle.med_backup.specs.BackedUp.{IsBackedUpFrom}
+use Rattle.med_backup.specs.Copies.{ChangeLists, IsMadeBy}
 use Rattle.med_backup.specs.NodeConfig.{NodeConfig, opened_at}
 use Rattle.med_backup.specs.Plan.{Left, Leaves, tagged_at, look_plan, copy_plan, snapshot_plan}
 use Rattle.med_backup.proofs.Made.{made_later}
@@ -72,14 +72,14 @@ pub made_after : (before f n : List ℕ) (held : Option Snapshot) (s0 s1 s2 : St
     (p0 p1 p2 : History) (files : List FileRecord)
     → ChangesWithin [] s0 s1 p0 p1 → IsBackedUpFrom before f n held s1 s2 p1 p2 files
     → IsBackedUpFrom before f n held s0 s2 p0 p2 files
-made_after before f n held s0 s1 s2 p0 p1 p2 files first m = record {
-  order = m.order;
-  schema = m.schema;
-  found = subst (λ (c : Option Content). IsFound before f n held c m.order m.schema)
-      (same_content s0 s1 p0 p1 first.passes) m.found;
-  made = made_later s0 s1 s2 p0 p1 p2 first (HasAll before f n held m.order m.schema files) m.made;
-  manifest_is = m.manifest_is;
-}
+made_after before f n held s0 s1 s2 p0 p1 p2 files first (ended, manifest) = (
+  subst (λ (c : Option Content). Ends (λ _. ⊥) (IsMadeBy s0 s2 p0 p2)
+      (snapshot_plan before f n held c) (Ok files)) (same_content s0 s1 p0 p1 first.passes)
+      (carried (λ _. ⊥) (λ _. ⊥) (λ d h. h) (IsMadeBy s1 s2 p1 p2) (IsMadeBy s0 s2 p0 p2)
+      (made_later s0 s1 s2 p0 p1 p2 first) (snapshot_plan before f n held s1.content) (Ok files)
+      ended),
+  manifest,
+)
 
 -- the look at what is to be copied, and copying it after that
 pub after_look : (before f n : List ℕ) (held : Option Snapshot) (told : Option Content)

@@ -1,9 +1,9 @@
 -- What a finished backup is, over the contents before and after it.
-use Rattle.std.specs.Prelude.{◌≡◌, ℕ, List, ◌∷◌, map, Some, None, is_some, IsTrue}
+use Rattle.std.specs.Prelude.{◌≡◌, ◌≢◌, ℕ, List, ◌∷◌, map, Some, None, is_some, option_map, IsTrue}
 use Rattle.std.specs.List.{AllByRecursion}
 use Rattle.std.specs.FinMap.{get, keys}
 use Rattle.med_base.specs.declared.layout.MetaKind.TheVariants.{Schema, Manifest}
-use Rattle.med_base.specs.Content.{Content}
+use Rattle.med_base.specs.Content.{Content, Object}
 use Rattle.med_base.specs.Fingerprint.{fingerprint_of}
 use Rattle.med_base.specs.Layout.{meta_path}
 use Rattle.med_manifest.specs.declared.manifest.FileRecord.{FileRecord}
@@ -12,9 +12,8 @@ use Rattle.med_manifest.specs.Written.{manifest_text}
 use Rattle.med_outside.specs.Snapshot.{Snapshot}
 
 -- an object of these bytes stands under the path
-pub record HoldsBytes (c : Content) (path bytes : List ℕ) : Type 0 where
-  pub second : ℕ
-  pub stands : get c path ≡ Some (record { bytes = bytes; second = second })
+abbrev pub HoldsBytes : Content → (path bytes : List ℕ) → Type 0
+HoldsBytes c path bytes = option_map (λ (o : Object). o.bytes) (get c path) ≡ Some bytes
 
 -- The file is one of the snapshot, and the record has the fingerprint of its bytes. Where the
 -- record's path was free before, the object there holds these bytes themselves.
@@ -32,15 +31,11 @@ pub record IsBackupOf (before f n : List ℕ) (s : Snapshot) (old new : Content)
   pub files_are : AllByRecursion (IsFileOf s old new) files
   pub schema_is : HoldsBytes new (meta_path before f n Schema) s.schema
 
--- the path is none of these
-abbrev pub IsNoneOf : List (List ℕ) → List ℕ → Type 0
-IsNoneOf paths path = AllByRecursion (λ (p : List ℕ). path ≡ p → ⊥) paths
-
 -- the paths were free and have objects now, and every other path is as before
 pub record AddsAt (paths : List (List ℕ)) (old new : Content) : Type 0 where
   pub were_free : AllByRecursion (λ (p : List ℕ). get old p ≡ None) paths
   pub stand : AllByRecursion (λ (p : List ℕ). IsTrue (is_some (get new p))) paths
-  pub others : (path : List ℕ) → IsNoneOf paths path → get new path ≡ get old path
+  pub others : (path : List ℕ) → AllByRecursion (λ p. path ≢ p) paths → get new path ≡ get old path
 
 -- the paths of a full backup of these files: schema, manifest, and those of the files
 abbrev pub paths_of : List ℕ → List ℕ → List ℕ → List FileRecord → List (List ℕ)

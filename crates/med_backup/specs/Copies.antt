@@ -3,6 +3,7 @@ use Rattle.std.specs.Prelude.{◌≡◌, ◌⊎◌, ℕ, List, [], ◌∷◌, �
 use Rattle.std.specs.List.{AllByRecursion}
 use Rattle.std.specs.FinMap.{get}
 use Rattle.med_base.specs.declared.key.FileKey.{FileKey}
+use Rattle.med_base.specs.declared.layout.MetaKind.{MetaKind}
 use Rattle.med_base.specs.declared.layout.MetaKind.TheVariants.{Schema, Manifest}
 use Rattle.med_base.specs.Fingerprint.{fingerprint_of}
 use Rattle.med_base.specs.Layout.{own_path, meta_path}
@@ -60,13 +61,9 @@ module _ (before f n : List ℕ) where
   record_of c =
       record { key = c.key; path = own_path before f n c.key; fingerprint = fingerprint_of c.bytes }
 
-  -- the schema was put
-  abbrev pub IsSchemaPut : (schema : List ℕ) → ChangeLists
-  IsSchemaPut schema = IsPut (meta_path before f n Schema) schema
-
-  -- the manifest was put, which records these files
-  abbrev pub IsManifestPut : List FileRecord → ChangeLists
-  IsManifestPut files = IsPut (meta_path before f n Manifest) (manifest_text files)
+  -- an object of the backup itself, of this kind, was put with these bytes
+  abbrev pub IsMetaPut : MetaKind → List ℕ → ChangeLists
+  IsMetaPut kind bytes = IsPut (meta_path before f n kind) bytes
 
   module _ (held : Option Snapshot) where
     -- The files of the snapshot with these keys were put, in order, each under its own path, and
@@ -87,8 +84,9 @@ module _ (before f n : List ℕ) where
 
     -- the schema was put, and then the files with these keys
     abbrev pub HasFiles : List FileKey → (schema : List ℕ) → List FileRecord → ChangeLists
-    HasFiles order schema files = FollowedBy (IsSchemaPut schema) (ArePut order files)
+    HasFiles order schema files = FollowedBy (IsMetaPut Schema schema) (ArePut order files)
 
     -- the same, and then the manifest
     abbrev pub HasAll : List FileKey → (schema : List ℕ) → List FileRecord → ChangeLists
-    HasAll order schema files = FollowedBy (HasFiles order schema files) (IsManifestPut files)
+    HasAll order schema files =
+        FollowedBy (HasFiles order schema files) (IsMetaPut Manifest (manifest_text files))

@@ -1,29 +1,30 @@
 -- The work of a full backup of one node, in its order.
-use Rattle.std.specs.Prelude.{◌≡◌, ℕ, List, [], ◌∷◌, Option, Some, IfSome, Result, Ok, Err}
+use Rattle.std.specs.Prelude.{◌≡◌, ℕ, List, [], ◌∷◌, Option, Some, None, IfSome, Result, Ok, Err}
 use Rattle.std.specs.List.{AllByRecursion}
 use Rattle.std.specs.FinMap.{keys}
 use Rattle.med_base.specs.declared.key.FileKey.{FileKey}
+use Rattle.med_base.specs.declared.layout.MetaKind.TheVariants.{Schema, Manifest}
 use Rattle.med_base.specs.Content.{Content}
 use Rattle.med_base.specs.Key.{AreRising, IsKey}
 use Rattle.med_base.specs.Layout.{backup_folder}
 use Rattle.med_manifest.specs.declared.manifest.FileRecord.{FileRecord}
+use Rattle.med_manifest.specs.Written.{manifest_text}
 use Rattle.med_outside.specs.Counts.{SnapshotCounts, Tagged, tagged, opened_once}
 use Rattle.med_base.specs.Effects.{Effect}
 use Rattle.med_outside.specs.Ends.{Nodes, Storage, on, Refusal, Taken, NoSnapshot, BadFileName, Plan, last, step, Answers, then, said_as}
 use Rattle.med_outside.specs.Snapshot.{Snapshot}
 use Rattle.med_outside.specs.State.{State, History}
 use Rattle.med_outside.specs.World.{NodesState, Snapshots}
-use Rattle.med_backup.specs.Copies.{ChangeLists, IsNothing, OrNothing, FollowedBy, IsMadeBy, IsSchemaPut, IsManifestPut, ArePut, AreFirstPut, HasFiles, HasAll}
+use Rattle.med_backup.specs.Copies.{ChangeLists, IsNothing, OrNothing, FollowedBy, IsMadeBy, IsMetaPut, ArePut, AreFirstPut, HasFiles, HasAll}
 use Rattle.med_backup.specs.NodeConfig.{NodeConfig, opened_at, snap_at, tag_of}
-use Rattle.med_backup.specs.Taken.{IsFree, IsFirstUnder}
+use Rattle.med_backup.specs.Taken.{IsFirstUnder}
 use Rattle.med_backup.specs.Walked.{CanBeWalked, IsFirstBad}
 
 -- ---- what the steps answer
 
 -- nothing is refused
 abbrev pub Passed : {T : Type 0} → Result T Refusal → Type 0
-Passed (Ok x) = Unit {0}
-Passed (Err f) = ⊥
+Passed = Answers (λ _. Unit {0})
 
 -- the keys of the snapshot in order; or it has none, or the first that is no name of a file
 abbrev pub Walks : List ℕ → Option Snapshot → Result (List FileKey) Refusal → Type 0
@@ -36,9 +37,9 @@ Walks n held (Err f) = ⊥
 
 -- the text before each path of the bucket, the node, and the name of the backup
 module _ (before f n : List ℕ) where
-  -- the folder of the backup is free, or this is the first path under it
+  -- no path lies under the folder of the backup, or this is the first
   abbrev pub FindsFree : Option Content → Result (Unit {0}) Refusal → Type 0
-  FindsFree told (Ok x) = IsFree before f n told
+  FindsFree told (Ok x) = IsFirstUnder (backup_folder before f n) told None
   FindsFree told (Err (Taken name path)) =
       (name ≡ n) × IsFirstUnder (backup_folder before f n) told (Some path)
   FindsFree told (Err e) = ⊥
@@ -57,13 +58,13 @@ module _ (before f n : List ℕ) where
     -- the puts: the schema, the files, and the manifest
     abbrev pub copy_plan : List FileKey → (schema : List ℕ) → Plan ChangeLists (List FileRecord)
     copy_plan order schema =
-        step {T = Unit {0}} Passed (on Storage) (OrNothing (IsSchemaPut before f n schema)) (λ _.
+        step {T = Unit {0}} Passed (on Storage) (OrNothing (IsMetaPut before f n Schema schema)) (λ _.
         step (Answers (λ files. (xs : List Effect) × ArePut before f n held order files xs))
         (Nodes ∷ on Storage)
-        (FollowedBy (IsSchemaPut before f n schema) (AreFirstPut before f n held order)) (λ files.
+        (FollowedBy (IsMetaPut before f n Schema schema) (AreFirstPut before f n held order)) (λ files.
         step {T = Unit {0}} Passed (on Storage)
         (FollowedBy (HasFiles before f n held order schema files)
-        (OrNothing (IsManifestPut before f n files)))
+        (OrNothing (IsMetaPut before f n Manifest (manifest_text files))))
         (λ _. last (HasAll before f n held order schema files) files)))
 
     -- the work over an open bucket and an open snapshot

@@ -33,7 +33,8 @@ use Rattle.med_backup.proofs.CopyLemmas.{key_of, AreOf}
 use Rattle.med_backup.specs.Errors.{stop_of as stop_of_error}
 use Rattle.med_backup.specs.Plan.{Passed, tagged_at}
 use Rattle.med_backup.specs.NodeConfig.{NodeConfig, opened_at, snap_at}
-use Rattle.med_backup.specs.Taken.{IsFree}
+use Rattle.med_backup.proofs.LookSteps.{free_of}
+use Rattle.med_backup.proofs.MadeOf.{made_of}
 use Rattle.med_backup.specs.Walked.{CanBeWalked}
 use Rattle.med_backup.specs.declared.look.BackupError.{BackupError}
 use Rattle.med_backup.specs.declared.look.BackupError.TheVariants as error
@@ -101,12 +102,16 @@ pub done_of : (node_config : NodeConfig) (n : List ℕ) (a b : World) (files : L
     b.store a.stood b.stood files
     → b.nodes.counts ≡ opened_once (tagged_at node_config n) a.nodes.counts
     → IsDone node_config n a b files
-done_of node_config n a b files m counts =
+done_of node_config n a b files done counts =
     let held = snap_at a.nodes.snaps node_config n in
+    let m = made_of node_config.before node_config.node n held (opened_at node_config a.store)
+    b.store a.stood b.stood files done.0 in
     let old = a.store in
     let new = b.store in
     let (xs, has, moves) = m.made in
     let puts = all_puts node_config.before node_config.node n held m.order m.schema files xs has in
+    let free = free_of (backup_folder node_config.before node_config.node n) old.content
+    m.found.free in
     let content : new.content ≡ after_all
     (backup_puts node_config.before node_config.node n m.schema puts.at puts.copies puts.end)
     old.content = moves.passes.content
@@ -119,7 +124,7 @@ done_of node_config n a b files m counts =
     (manifest_text (records_of node_config.before node_config.node n puts.copies))
     (records_of node_config.before node_config.node n puts.copies) =
     subst (λ (fs : List FileRecord). IsManifest node_config.before node_config.node n
-    (manifest_text fs) fs) puts.files_are m.manifest_is in
+    (manifest_text fs) fs) puts.files_are done.1 in
     let keys_are : IfSome held (λ s. map key_of puts.copies ≡ keys s.files) = IfSome_then held
     m.found.walks.3 (λ s e. puts.keys_are ∙ e) in
     record {
@@ -127,27 +132,33 @@ done_of node_config n a b files m counts =
           (λ c d. FinishesBackup node_config.before node_config.node n c d fs))
           (sym puts.files_are)
           (told_finished node_config.before node_config.node n m.schema puts.at puts.end puts.copies
-          old.content new.content content m.found.free rising names manifest);
+          old.content new.content content free rising names manifest);
       backup = subst (λ (fs : List FileRecord). IfTold old.content new.content
           (λ c d. IfSome held (λ s. IsBackupOf node_config.before node_config.node n s c d fs)))
           (sym puts.files_are)
           (told_backup node_config.before node_config.node n m.schema puts.at puts.end puts.copies
-          held old.content new.content content m.found.free rising names manifest puts.bytes_are
+          held old.content new.content content free rising names manifest puts.bytes_are
           keys_are m.found.reads);
       snapshot = counts;
-      made = m;
+      made = done;
     }
 
 -- a backup that is done is of a snapshot whose keys are names of files
 pub done_walked : (node_config : NodeConfig) (n : List ℕ) (a b : World) (files : List FileRecord)
     → IsDone node_config n a b files → IfSome (snap_at a.nodes.snaps node_config n) CanBeWalked
-done_walked node_config n a b files done = done.made.found.walks.2
+done_walked node_config n a b files done =
+    (made_of node_config.before node_config.node n (snap_at a.nodes.snaps node_config n)
+    (opened_at node_config a.store) b.store a.stood b.stood files done.made.0).found.walks.2
 
 -- and its name was free
 pub done_free : (node_config : NodeConfig) (n : List ℕ) (a b : World) (files : List FileRecord)
     → IsDone node_config n a b files
-    → IsFree node_config.before node_config.node n a.store.content
-done_free node_config n a b files done = done.made.found.free
+    → IfSome a.store.content
+    (λ c. objects_under (backup_folder node_config.before node_config.node n) c ≡ [])
+done_free node_config n a b files done =
+    free_of (backup_folder node_config.before node_config.node n) a.store.content
+    (made_of node_config.before node_config.node n (snap_at a.nodes.snaps node_config n)
+    (opened_at node_config a.store) b.store a.stood b.stood files done.made.0).found.free
 
 -- ---- steps
 

@@ -1,5 +1,5 @@
 -- What is told of a snapshot and of the storage leads the work on a node to one end.
-use Rattle.std.proofs.Common.{◌≡◌, ℕ, zero, suc, List, [], ◌∷◌, take, slice_get, Option, Some, IfSome, Result, Ok, Err, MatchResult, refl, sym, ◌∙◌, ap, ap₂, subst}
+use Rattle.std.proofs.Common.{◌≡◌, ℕ, zero, suc, List, [], ◌∷◌, take, slice_get, Option, Some, None, IfSome, Result, Ok, Err, MatchResult, refl, sym, ◌∙◌, ap, ap₂, subst}
 use Rattle.std.specs.List.{AllByRecursion}
 use Rattle.med_base.specs.Content.{Content, Object, objects_under}
 use Rattle.med_base.specs.Layout.{backup_folder}
@@ -153,8 +153,9 @@ module _ (node_config : NodeConfig) (n : List ℕ) (a b : World) where
         where
           no : Finds told (Ok tt) → ⊥
           no h =
-              no_path path (under c)
-              (subst (λ (o : Option Content). IfSome o (λ c. under c ≡ [])) content h) (sym first)
+              let bad : ◌≡◌ {A = Option (List ℕ)} None (Some path) =
+              subst (λ (o : Option Content). IfSome o (λ c. None ≡ first_path (under c))) content h
+              ∙ first in cc bad
 
           yes : (f : Refusal) → Finds told (Err f)
               → ◌≡◌ {A = End} (Err (Refused (Taken n path))) (Err (Refused f))

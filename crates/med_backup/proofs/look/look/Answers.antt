@@ -2,7 +2,6 @@ use Rattle.std.proofs.Common.{[], inl, inr, refl, arith}
 use Rattle.std.proofs.lemmas.Result.{err_from_is_err_and}
 use Rattle.med_backup.specs.Plan.{FindsFree}
 use Rattle.med_backup.proofs.Denials.{value_of, store_stop}
-use Rattle.med_backup.proofs.LookSteps.{free_of}
 use Rattle.med_backup.proofs.look.look.Goals as goal
 
 pub returns-in-None-clause-ends : goal.returns-in-None-clause-ends
@@ -20,9 +19,9 @@ returns-in-None-clause-ends g c = inr (
         c.in_ok-schema.ensures.variant c.in_ok-schema.ensures.cases c.schema.ensures.bytes),
     inr (
       tt,
-      free_of _ _ (rw c.in-None.is at (value_of _ _ c.first_under.result c.in_ok-map_err.field-0
+      rw c.in-None.is at (value_of _ _ c.first_under.result c.in_ok-map_err.field-0
           c.in_ok-map_err.ensures.variant c.in_ok-map_err.ensures.cases
-          c.first_under.ensures.first)),
+          c.first_under.ensures.first),
       (refl, ([], refl, c.first_under.ensures.looks.moves)),
     ),
   ),

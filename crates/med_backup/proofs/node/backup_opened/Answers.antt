@@ -13,6 +13,15 @@ use Rattle.med_backup.proofs.Denials.{value_of, counts_of}
 use Rattle.med_backup.proofs.NodeSteps.{closed_rose, on_ok, worked}
 use Rattle.med_backup.proofs.node.backup_opened.Goals as goal
 
+pub returns-clause-ok : goal.returns-clause-ok
+returns-clause-ok g c =
+    let tag : c.as_str-2.result.now ≡ tag_of c.args.name.now =
+    rw (c.as_str-2.ensures.value, c.in-Ok.ensures.ok, c.as_str.ensures.value) refl in
+    let opened = value_of _ _ c.open-opened.result c.in_ok-snap.snap c.in_ok-snap.ensures.variant
+    c.in_ok-snap.ensures.cases c.open-opened.ensures.ok in
+    rw (ap (λ (s : SnapState). s.held) opened, c.as_str-root.ensures.value, tag)
+    at c.backup_snapshot-answer.ensures.ok
+
 pub returns-clause-snapshot : goal.returns-clause-snapshot
 returns-clause-snapshot g c =
     let node_config = node_config_of c.args.config.now in
