@@ -1,11 +1,9 @@
 -- The words of a line pass the first look.
-use Rattle.std.proofs.Common.{◌≡◌, ◌∙◌, ◌<◌, Bool, true, false, true≢false, refl, sym, subst, List, [], ◌∷◌, ◌++◌, length, Some, cond, option_map}
-use Rattle.std.specs.List.{find, flat_map, AllByRecursion}
-use Rattle.std.specs.Str.{bytes_eq}
+use Rattle.std.proofs.Common.{◌≡◌, ◌∙◌, ◌<◌, true≢false, refl, sym, subst, List, [], ◌∷◌, ◌++◌, length, Some}
+use Rattle.std.specs.List.{flat_map, AllByRecursion}
 use Rattle.clap.proofs.CutLemmas.{after_first-at}
 use Rattle.med_words.specs.Grammar.{Text, Opt, Use, alone, joined, apart, spelled, Fits, Commands, options_of, IsLine}
 use Rattle.med_words.specs.WellFormed.{IsWellFormed}
-use Rattle.med_base.proofs.Bools.{same_bytes}
 use Rattle.med_base.proofs.Lists.{all_append}
 use Rattle.med_words.proofs.Rows.{IsGoodName}
 use Rattle.med_words.proofs.Names.{lacks_byte}
@@ -55,18 +53,3 @@ well_formed_line top commands good each plain words main word own s =
       well_formed_uses s.options
           (each word s.options s.command_is) own s.own_fit,
     ))
-
-abbrev pub IsWellFormedName : Text × List Opt → Type 0
-IsWellFormedName c = IsWellFormed c.0
-
-pub well_formed_command : (cs : Commands) → AllByRecursion IsWellFormedName cs
-    → (w : Text) (t : List Opt)
-    → options_of cs w ≡ Some t → IsWellFormed w
-well_formed_command [] a w t e = cc e
-well_formed_command (d ∷ cs) a w t e = go (bytes_eq d.0 w) refl e (well_formed_command cs a.1 w t)
-  where
-    go : (b : Bool) → bytes_eq d.0 w ≡ b → option_map (λ (c : Text × List Opt). c.1)
-        (cond b (Some d) (find (λ (c : Text × List Opt). bytes_eq c.0 w) cs)) ≡ Some t
-        → (options_of cs w ≡ Some t → IsWellFormed w) → IsWellFormed w
-    go true is h more = subst IsWellFormed (same_bytes d.0 w is) a.0
-    go false is h more = more h

@@ -9,7 +9,7 @@ use Rattle.clap.specs.declared.error.kind.ErrorKind.{ErrorKind}
 use Rattle.clap.specs.declared.error.kind.ErrorKind.TheVariants as kind
 use Rattle.med_words.specs.Grammar.{Text, Opt, valued, opt_of}
 use Rattle.med_base.proofs.Bools.{bytes_same}
-use Rattle.med_words.proofs.Rows.{Level, rules, rule_for, value_rule, flag_rule, by_long, by_id}
+use Rattle.med_words.proofs.Rows.{rules, rule_for, value_rule, flag_rule, by_long, by_id}
 use Rattle.med_words.proofs.Steps.{or_else_nil, or_else_join, long_turn, long_walk, here}
 
 no_repeat : (b : Bool) (k : ErrorKind) → or_else (cond (b && not false) (k ∷ []) []) [] ≡ []
@@ -21,7 +21,7 @@ once_ok : (b : Bool) (k : ErrorKind) → b ≡ false
     → or_else (cond (b && not false) (k ∷ []) []) [] ≡ []
 once_ok b k e = rw e refl
 
-module _ (name : Level) (table : List Opt) where
+module _ (name : Text) (table : List Opt) where
   abbrev pub rs : List Rule
   rs = rules table
 
@@ -113,13 +113,13 @@ module _ (name : Level) (table : List Opt) where
 
   -- the value itself
   pub value_word : (n : Text) (h : Held) (x : ℕ) (xs : Text) → x ≢ 45
-      → turn_fault (here name rs) name.names (waits n h) (x ∷ xs) ≡ []
+      → turn_fault (here name rs) [] (waits n h) (x ∷ xs) ≡ []
   value_word n h x xs ne = let s : short_of (x ∷ xs) ≡ None =
       rw (ne_eqb x 45 ne) refl in rw (ne_eqb x 45 ne, s) refl
 
   pub value_walk : (n : Text) (q : Bool) (h : Held) (x : ℕ) (xs : Text)
       → opt_of table n ≡ Some (valued n q) → x ≢ 45
-      → walked rs name.names (waits n h) (x ∷ xs) ≡ walk_from (given n (x ∷ xs) h)
+      → walked rs [] (waits n h) (x ∷ xs) ≡ walk_from (given n (x ∷ xs) h)
   unfolding walked
   value_walk n q h x xs e ne = let s : short_of (x ∷ xs) ≡ None =
       rw (ne_eqb x 45 ne) refl in

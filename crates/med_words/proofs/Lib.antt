@@ -9,8 +9,9 @@ pub mod Complete
 pub mod After
 pub mod RowsHeld
 pub mod Exact
-pub mod WholeLine
 pub mod OwnLemmas
+pub mod AtWord
+pub mod LineParts
 pub mod OneLine
 pub mod OneRequest
 pub mod LineLemmas

@@ -1,21 +1,17 @@
 -- Words are one line at most.
-use Rattle.std.proofs.Common.{◌≡◌, ◌∙◌, ◌++◌, true, false, true≢false, refl, sym, ap, ap₂, subst, List, [], ◌∷◌, Option, Some, append-nil, append_assoc}
+use Rattle.std.proofs.Common.{◌≡◌, ◌∙◌, ◌++◌, true, true≢false, refl, sym, ap, ap₂, subst, List, [], ◌∷◌, Option, Some}
 use Rattle.std.specs.List.{flat_map, AllByRecursion}
 use Rattle.clap.specs.Lexer.{name_and_value, has_byte}
 use Rattle.clap.proofs.CutLemmas.{list_any-at}
-use Rattle.med_words.specs.Grammar.{Text, Opt, Use, alone, joined, apart, spelled, opt_of, Fits, IsPlain, IsLine, Row, options_of}
+use Rattle.med_words.specs.Grammar.{Text, Opt, Use, alone, joined, apart, spelled, opt_of, Fits, IsLine, options_of}
 use Rattle.med_words.specs.Tables.{main_options, commands}
 use Rattle.med_words.proofs.Rows.{IsGoodName}
 use Rattle.med_words.proofs.Names.{joined_text}
-use Rattle.med_words.proofs.Exact.{IsTable, options_table}
-use Rattle.med_words.proofs.OwnLemmas.{of_row}
-use Rattle.med_words.proofs.TheTables.{main_table, all_tables, is_word, plain_word}
+use Rattle.med_words.proofs.AtWord.{no_equals, line_cut}
+use Rattle.med_words.proofs.Exact.{IsTable}
+use Rattle.med_words.proofs.TheTables.{main_table, own_table, table_of}
 
 -- a name and a value joined to it have a `=`, and a name alone has none
-no_equals : (n : Text) → IsGoodName n → has_byte 61 n ≡ false
-no_equals [] g = refl
-no_equals (z ∷ zs) g = g
-
 has_equals : (n v : Text) → has_byte 61 (n ++ 61 ∷ v) ≡ true
 has_equals n v = list_any-at 61 n v
 
@@ -54,56 +50,35 @@ module _ (table : List Opt) (good : IsTable table) where
   one_use (apart n v) (apart m w) f g a b e =
       let name : n ≡ m = cc e in let value : v ≡ w = cc e in (ap₂ apart name value, cc e)
 
-  -- what follows the uses begins with no hyphen
-  abbrev pub IsEnd : List Text → Type 0
-  IsEnd [] = Unit {0}
-  IsEnd (w ∷ ws) = IsPlain w
-
-  no_end : (u : Use) (a b : List Text) → IsEnd a → a ≡ spelled u ++ b → ⊥
-  no_end (alone n) [] b p e = cc e
-  no_end (joined n v) [] b p e = cc e
-  no_end (apart n v) [] b p e = cc e
-  no_end (alone n) ([] ∷ a) b p e = p
-  no_end (joined n v) ([] ∷ a) b p e = p
-  no_end (apart n v) ([] ∷ a) b p e = p
-  no_end (alone n) ((x ∷ xs) ∷ a) b p e = p (cc e)
-  no_end (joined n v) ((x ∷ xs) ∷ a) b p e = p (cc e)
-  no_end (apart n v) ((x ∷ xs) ∷ a) b p e = p (cc e)
+  no_end : (u : Use) (b : List Text) → [] ≡ spelled u ++ b → ⊥
+  no_end (alone n) b e = cc e
+  no_end (joined n v) b e = cc e
+  no_end (apart n v) b e = cc e
 
   pub one_level : (us vs : List Use) → AllByRecursion (Fits table) us
-      → AllByRecursion (Fits table) vs → (a b : List Text) → IsEnd a → IsEnd b
-      → flat_map spelled us ++ a ≡ flat_map spelled vs ++ b → (us ≡ vs) × (a ≡ b)
-  one_level [] [] f g a b p q e = (refl, e)
-  one_level [] (v ∷ vs) f g a b p q e =
-      absurd (no_end v a (flat_map spelled vs ++ b) p
-      (e ∙ append_assoc (spelled v) (flat_map spelled vs) b))
-  one_level (u ∷ us) [] f g a b p q e =
-      absurd (no_end u b (flat_map spelled us ++ a) q
-      (sym e ∙ append_assoc (spelled u) (flat_map spelled us) a))
-  one_level (u ∷ us) (v ∷ vs) f g a b p q e =
-      let first = one_use u v f.0 g.0 (flat_map spelled us ++ a) (flat_map spelled vs ++ b)
-      (sym (append_assoc (spelled u) (flat_map spelled us) a) ∙ e
-      ∙ append_assoc (spelled v) (flat_map spelled vs) b) in
-      let rest = one_level us vs f.1 g.1 a b p q first.1 in
-      (ap₂ (λ (x : Use) (xs : List Use). x ∷ xs) first.0 rest.0, rest.1)
-
-word_is_plain : (w : Text) (t : List Opt) → options_of commands w ≡ Some t → IsPlain w
-word_is_plain w t e = plain_word w (of_row (λ (c : Row). is_word c.0) commands refl w t e)
+      → AllByRecursion (Fits table) vs → flat_map spelled us ≡ flat_map spelled vs → us ≡ vs
+  one_level [] [] f g e = refl
+  one_level [] (v ∷ vs) f g e = absurd (no_end v (flat_map spelled vs) e)
+  one_level (u ∷ us) [] f g e = absurd (no_end u (flat_map spelled us) (sym e))
+  one_level (u ∷ us) (v ∷ vs) f g e =
+      let first = one_use u v f.0 g.0 (flat_map spelled us) (flat_map spelled vs) e in
+      ap₂ (λ (x : Use) (xs : List Use). x ∷ xs) first.0 (one_level us vs f.1 g.1 first.1)
 
 pub one_line : (words : List Text) (m n : List Use) (v w : Text) (o p : List Use)
     → IsLine main_options commands words m v o → IsLine main_options commands words n w p
     → (m ≡ n) × (v ≡ w) × (o ≡ p)
 one_line words m n v w o p k l =
-    let top = one_level main_options main_table m n k.main_fit l.main_fit
-    (v ∷ flat_map spelled o) (w ∷ flat_map spelled p)
-    (word_is_plain v k.options k.command_is) (word_is_plain w l.options l.command_is)
-    (sym k.words_are ∙ l.words_are) in
-    let word : v ≡ w = cc top.1 in
-    let rest : flat_map spelled o ≡ flat_map spelled p = cc top.1 in
+    let a = line_cut words m o v k in
+    let b = line_cut words n p w l in
+    let ends : v ∷ flat_map spelled o ≡ w ∷ flat_map spelled p = sym a.1 ∙ b.1 in
+    let word : v ≡ w = cc ends in
+    let rest : flat_map spelled o ≡ flat_map spelled p = cc ends in
     let table : k.options ≡ l.options =
     cc (sym k.command_is ∙ ap (options_of commands) word ∙ l.command_is) in
-    let fits = subst (λ (t : List Opt). AllByRecursion (Fits t) p) (sym table) l.own_fit in
-    let own = one_level k.options (options_table commands all_tables v k.options k.command_is) o p
-    k.own_fit fits [] [] tt tt
-    (append-nil (flat_map spelled o) ∙ rest ∙ sym (append-nil (flat_map spelled p))) in
-    (top.0, word, own.0)
+    let fits = subst (λ (t : List Opt). AllByRecursion (Fits t) p) (sym table) l.own_fit in (
+      one_level main_options (table_of main_options main_table) m n k.main_fit l.main_fit
+          (sym a.0 ∙ b.0),
+      word,
+      one_level k.options (table_of k.options (own_table v k.options k.command_is)) o p k.own_fit
+          fits rest,
+    )

@@ -1,22 +1,20 @@
 -- One word more, at a place between two uses.
-use Rattle.std.proofs.Common.{◌≡◌, ◌≢◌, ◌∙◌, ◌&&◌, ◌==◌, ℕ, Bool, cond, true, false, refl, sym, ap, ap₂, subst, List, [], ◌∷◌, ◌++◌, Option, Some, None, codes, append-nil, append_assoc, ne_eqb}
-use Rattle.std.specs.List.{find, fold, before_first, after_first}
+use Rattle.std.proofs.Common.{◌≡◌, ◌≢◌, ◌∙◌, ◌==◌, ℕ, Bool, cond, true, false, refl, sym, ap, ap₂, subst, List, [], ◌∷◌, ◌++◌, Option, Some, None, codes, ne_eqb}
+use Rattle.std.specs.List.{before_first, after_first}
 use Rattle.std.specs.Option.{option_map}
 use Rattle.std.specs.Str.{bytes_eq}
 use Rattle.std.proofs.lemmas.List.{map-append}
 use Rattle.clap.specs.Lexer.{name_and_value, has_byte}
-use Rattle.clap.specs.Kinds.{Kinds, or_else}
-use Rattle.clap.specs.Walk.{Held, Walk, Row, Rule, arg_by_long, has_row, walk_from, walked, used}
+use Rattle.clap.specs.Kinds.{Kinds}
+use Rattle.clap.specs.Walk.{Held, Row, Rule, arg_by_long, has_row, walk_from, walked, used}
 use Rattle.clap.specs.Faults.{turn_fault}
-use Rattle.clap.specs.declared.error.kind.ErrorKind.{ErrorKind}
-use Rattle.clap.specs.declared.error.kind.ErrorKind.TheVariants as kind
 use Rattle.clap.specs.declared.builder.value_parser.ValueParser.TheVariants as vp
 use Rattle.med_words.specs.Grammar.{Text, Opt, valued, flag, Use, alone, joined, apart, opt_name, opt_of, is_used}
 use Rattle.med_base.proofs.Bools.{same_bytes}
-use Rattle.med_words.proofs.Rows.{Level, rules, rule_for, value_rule, flag_rule, by_long, rows, row_for, row_with, has_row_is, used_value, used_flag}
+use Rattle.med_words.proofs.Rows.{rules, rule_for, value_rule, flag_rule, by_long, rows, row_for, row_with, has_row_is, used_value, used_flag}
 use Rattle.med_words.proofs.Steps.{or_else_nil, long_turn, long_walk, turn_long, walk_long, here}
 use Rattle.med_words.proofs.Names.{alone_text, cut_at_byte}
-use Rattle.clap.specs.Walk.{answers_to, arg_by_index}
+use Rattle.clap.specs.Walk.{arg_by_index}
 use Rattle.clap.specs.Faults.{long_fault}
 use Rattle.med_words.proofs.Level as level
 
@@ -57,7 +55,7 @@ no_index (flag n ∷ rest) = no_index rest
 
 -- ---- one word more, at a place between two uses
 
-module _ (name : Level) (table : List Opt) where
+module _ (name : Text) (table : List Opt) where
   abbrev rs : List Rule
   rs = rules table
 
@@ -103,7 +101,7 @@ module _ (name : Level) (table : List Opt) where
   -- a word of two hyphens and more does what its option says
   pub turn_at : (h : Held) (z : ℕ) (zs n : Text) (v : Option Text) (o : Option Opt)
       → name_and_value (z ∷ zs) ≡ (n, v) → opt_of table n ≡ o
-      → turn_fault (here name rs) name.names (walk_from h) (45 ∷ 45 ∷ z ∷ zs)
+      → turn_fault (here name rs) [] (walk_from h) (45 ∷ 45 ∷ z ∷ zs)
       ≡ long_turn name rs (option_map rule_for o) v (45 ∷ 45 ∷ z ∷ zs) h
   turn_at h z zs n v o e f = turn_long name rs h z zs
       ∙ ap₂ (λ found w. long_turn name rs found w (45 ∷ 45 ∷ z ∷ zs) h)
@@ -112,58 +110,24 @@ module _ (name : Level) (table : List Opt) where
 
   pub walk_at : (h : Held) (z : ℕ) (zs n : Text) (v : Option Text) (o : Option Opt)
       → name_and_value (z ∷ zs) ≡ (n, v) → opt_of table n ≡ o
-      → walked rs name.names (walk_from h) (45 ∷ 45 ∷ z ∷ zs)
+      → walked rs [] (walk_from h) (45 ∷ 45 ∷ z ∷ zs)
       ≡ long_walk name rs (option_map rule_for o) v (45 ∷ 45 ∷ z ∷ zs) h
   walk_at h z zs n v o e f = walk_long name rs h z zs
       ∙ ap₂ (λ found w. long_walk name rs found w (45 ∷ 45 ∷ z ∷ zs) h)
       (ap (λ p. arg_by_long rs p.0) e ∙ by_long table n ∙ ap (option_map rule_for) f)
       (ap (λ p. p.1) e)
 
-  -- a word that is no subcommand is refused
-  pub stray : (b : Bool) (k l : ErrorKind) → cond b (k ∷ []) (k ∷ l ∷ []) ≡ [] → ⊥
-  stray true k l e = cc e
-  stray false k l e = cc e
-
+  -- a word without a hyphen is refused
   pub plain_turn : (h : Held) (x : ℕ) (xs : Text) → x ≢ 45
-      → find (answers_to (x ∷ xs)) name.names ≡ None
-      → turn_fault (here name rs) name.names (walk_from h) (x ∷ xs) ≡ [] → ⊥
-  plain_turn h x xs ne none e =
+      → turn_fault (here name rs) [] (walk_from h) (x ∷ xs) ≡ [] → ⊥
+  plain_turn h x xs ne e =
       let s : Rattle.clap.specs.Lexer.short_of (x ∷ xs) ≡ None = rw (ne_eqb x 45 ne) refl in
-      stray name.is_leaf kind.UnknownArgument kind.InvalidSubcommand
-      (rw (none, ne_eqb x 45 ne, s, no_index table) at e)
-
-  -- a subcommand ends the level
-  pub command_turn : (h : Held) (word : Text) (l : Text × List Text)
-      → find (answers_to word) name.names ≡ Some l
-      → turn_fault (here name rs) name.names (walk_from h) word ≡ []
-  command_turn h word l e = rw e (go (bytes_eq l.0 (codes "help")))
-    where
-      go : (b : Bool)
-          → ◌≡◌ {A = Kinds}
-          (or_else (cond (b && false) (kind.DisplayHelp ∷ kind.InvalidSubcommand ∷ []) []) []) []
-      go true = refl
-      go false = refl
-
-  pub command_walk : (h : Held) (word : Text) (l : Text × List Text)
-      → find (answers_to word) name.names ≡ Some l
-      → walked rs name.names (walk_from h) word ≡ record (walk_from h) { stopped = Some (l.0, []) }
-  unfolding walked
-  command_walk h word l e = rw e refl
-
-  pub stopped_end : (w : Walk) (p : Text × List Text) (words : List Text)
-      → fold (walked rs name.names) (record w { stopped = Some p }) words
-      ≡ record w { stopped = Some (p.0, p.1 ++ words) }
-  unfolding walked
-  stopped_end w p [] = ap (λ (ws : List Text). record w { stopped = Some (p.0, ws) })
-      (sym (append-nil p.1))
-  stopped_end w p (word ∷ words) = stopped_end w (p.0, p.1 ++ word ∷ []) words
-      ∙ ap (λ (ws : List Text). record w { stopped = Some (p.0, ws) })
-      (append_assoc p.1 (word ∷ []) words)
+      cc (rw (ne_eqb x 45 ne, s, no_index table) at e)
 
   -- what waits for a value takes no word with hyphens
   pub waiting_long : (n : Text) (q : Bool) (h : Held) (z : ℕ) (zs : Text)
       → opt_of table n ≡ Some (valued n q)
-      → turn_fault (here name rs) name.names (level.waits name table n h) (45 ∷ 45 ∷ z ∷ zs) ≡ []
+      → turn_fault (here name rs) [] (level.waits name table n h) (45 ∷ 45 ∷ z ∷ zs) ≡ []
       → ⊥
   waiting_long n q h z zs e none = go (opt_of table (name_and_value (z ∷ zs)).0)
       (name_and_value (z ∷ zs)).1
@@ -181,21 +145,3 @@ module _ (name : Level) (table : List Opt) where
       go (Some (valued m r)) (Some v) f = full (or_else_nil _ _ f).0
       go (Some (flag m)) None f = full (or_else_nil _ _ f).0
       go (Some (flag m)) (Some v) f = cc f
-
-  -- the command word and what follows it
-  abbrev pub tail_words : Option (Text × List Text) → List Text
-  tail_words None = []
-  tail_words (Some p) = p.0 ∷ p.1
-
-  abbrev pub IsTail : Option (Text × List Text) → Option (Text × List Text) → Type 0
-  IsTail None stopped = stopped ≡ None
-  IsTail (Some p) stopped = (l : Text × List Text) × (find (answers_to p.0) name.names ≡ Some l)
-      × (stopped ≡ Some (l.0, p.1))
-
-  -- one use more before a tail
-  pub more_tail : (h k : Held) (t : Option (Text × List Text)) (before rest : List Text)
-      → fold (walked rs name.names) (walk_from h) (before ++ rest)
-      ≡ fold (walked rs name.names) (walk_from k) rest
-      → IsTail t (fold (walked rs name.names) (walk_from k) rest).stopped
-      → IsTail t (fold (walked rs name.names) (walk_from h) (before ++ rest)).stopped
-  more_tail h k t before rest e is = subst (λ (w : Walk). IsTail t w.stopped) (sym e) is

@@ -1,11 +1,10 @@
 -- What the walk keeps of the uses so far, and how it finds an option of the table.
-use Rattle.std.proofs.Common.{◌≡◌, ◌∙◌, ◌||◌, ℕ, Bool, cond, true, false, not, refl, ap, List, [], ◌∷◌, ◌++◌, map, Option, Some, None, codes, true≢false, append-nil}
-use Rattle.std.specs.List.{find}
+use Rattle.std.proofs.Common.{◌≡◌, ◌∙◌, ◌||◌, ℕ, Bool, cond, true, false, refl, ap, List, [], ◌∷◌, ◌++◌, map, Option, Some, None, codes, true≢false, append-nil}
 use Rattle.std.specs.Option.{option_map}
 use Rattle.std.specs.Str.{bytes_eq}
 use Rattle.std.proofs.Math.Bool.{or-false}
 use Rattle.clap.specs.Lexer.{has_byte}
-use Rattle.clap.specs.Walk.{Names, answers_to, Row, Rule, arg_by_id, arg_by_long, at_row, has_row, used, more_values}
+use Rattle.clap.specs.Walk.{Row, Rule, arg_by_id, arg_by_long, at_row, has_row, used, more_values}
 use Rattle.clap.specs.Values.{reading_of}
 use Rattle.clap.specs.Simple.{Shape, filled_from}
 use Rattle.clap.specs.declared.builder.action.ArgAction.TheVariants.{Set, SetTrue}
@@ -58,16 +57,9 @@ rules_filled i [] = refl
 rules_filled i (valued n q ∷ rest) = ap (λ rs. value_rule n q ∷ rs) (rules_filled i rest)
 rules_filled i (flag n ∷ rest) = ap (λ rs. flag_rule n ∷ rs) (rules_filled i rest)
 
--- a level: its name, and the subcommands that it has, of which none begins with a hyphen
-pub record Level : Type 0 where
-  pub name : Text
-  pub is_leaf : Bool
-  pub names : Names
-  pub no_sub : (rest : Text) → find (answers_to (45 ∷ rest)) names ≡ None
-
-abbrev pub leaf : Level → List Rule → Shape
-leaf l rs = record (raw_shape l.name [])
-    { rules = rs; is_built = true; is_leaf = l.is_leaf; subcommand_required = not l.is_leaf }
+-- a level of that name with these rules, as it is built
+abbrev pub leaf : Text → List Rule → Shape
+leaf name rs = record (raw_shape name []) { rules = rs; is_built = true }
 
 -- ---- look-ups
 

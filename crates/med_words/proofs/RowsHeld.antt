@@ -25,7 +25,7 @@ found_passes p q (x ∷ rest) o e passes = go (p x) e (λ h. found_passes p q re
     go false h more = or_right (q x) (list_any q rest) (more h)
 
 -- an option that the table gives under a name is in it
-flag_there : (table : List Opt) (n : Text) → opt_of table n ≡ Some (flag n)
+pub flag_there : (table : List Opt) (n : Text) → opt_of table n ≡ Some (flag n)
     → has_flag n table ≡ true
 flag_there table n e =
     found_passes (λ o. bytes_eq (opt_name o) n) (is_flag n) table (flag n) e (bytes_same n)

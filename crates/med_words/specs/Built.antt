@@ -1,10 +1,9 @@
 -- What clap is told of the tables.
-use Rattle.std.specs.Prelude.{true, false, List, [], map, Some}
-use Rattle.std.specs.List.{fold}
-use Rattle.clap.specs.Words.{App, Rule, Shape, new_rule, with_rule}
-use Rattle.clap.specs.Simple.{new_shape, with_subcommand}
+use Rattle.std.specs.Prelude.{true, List, [], map, Some, codes}
+use Rattle.clap.specs.Words.{App, Rule, Shape, new_rule}
+use Rattle.clap.specs.Simple.{new_shape}
 use Rattle.clap.specs.declared.builder.ArgAction.TheVariants.{Set, SetTrue}
-use Rattle.med_words.specs.Grammar.{Opt, valued, flag, Text, Row, Commands}
+use Rattle.med_words.specs.Grammar.{Opt, valued, flag, Text}
 
 -- an option, as clap is told of it
 abbrev pub raw_rule : Opt → Rule
@@ -22,28 +21,6 @@ raw_shape name table = record (new_shape name) {
   disable_version_flag = true;
 }
 
--- a command word with its options
-abbrev pub sub_shape : Row → Shape
-sub_shape c = record (new_shape c.0) { rules = map raw_rule c.1 }
-
--- the line: the main options, and the command words, of which one has to stand
-abbrev pub line_app : Text → List Opt → Commands → App
-line_app name top commands = record {
-  top = record (raw_shape name top) { is_leaf = false; subcommand_required = true };
-  subs = map sub_shape commands;
-}
-
--- the line before its options and command words are added
-abbrev pub bare_app : Text → App
-bare_app name = record {
-  top = record (raw_shape name []) { subcommand_required = true };
-  subs = [];
-}
-
--- a command to which options are added, one after the other
-abbrev pub with_table : App → List Opt → App
-with_table a table = fold (λ b o. with_rule b (raw_rule o)) a table
-
--- a command to which command words are added, one after the other
-abbrev pub with_commands : App → Commands → App
-with_commands a commands = fold (λ b c. with_subcommand b (sub_shape c)) a commands
+-- a command that reads these options alone
+abbrev pub flat_app : List Opt → App
+flat_app table = record { top = raw_shape (codes "medusa") table; subs = [] }

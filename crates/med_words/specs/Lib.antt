@@ -6,6 +6,7 @@ pub mod Values
 pub mod Settings
 pub mod Tables
 pub mod Built
+pub mod Cut
 pub mod Request
 pub mod Matched
 pub mod Views

@@ -1,12 +1,15 @@
 -- What the matches hold of the uses.
-use Rattle.std.specs.Prelude.{◌≡◌, ◌⊎◌, Bool, true, false, List, codes, Option, Some, None}
-use Rattle.std.specs.List.{list_any}
+use Rattle.std.specs.Prelude.{◌≡◌, ◌⊎◌, ◌&&◌, not, Bool, true, false, List, [], ◌∷◌, codes, Option, Some, None}
+use Rattle.std.specs.List.{list_all, list_any, flat_map, AllByRecursion}
 use Rattle.std.specs.Str.{bytes_eq}
 use Rattle.clap.specs.Walk.{Row, first_of, one_of, rows_of}
-use Rattle.clap.specs.Simple.{subcommand_rows_of}
+use Rattle.clap.specs.Lexer.{has_byte}
+use Rattle.clap.specs.Faults.{is_simple_and_free}
+use Rattle.clap.specs.Simple.{is_simple}
+use Rattle.med_words.specs.Built.{flat_app}
 use Rattle.clap.specs.Words.{found_of}
 use Rattle.clap.specs.declared.parser.matches.ArgMatches.{ArgMatches}
-use Rattle.med_words.specs.Grammar.{Text, Opt, Use, Commands, valued, flag, is_used, value_in, IsLine}
+use Rattle.med_words.specs.Grammar.{Text, Opt, Use, valued, flag, opt_name, spelled, is_used, value_in, Fits, AreOnce, IsMet}
 use Rattle.med_words.specs.Fields.{Fields, MainFields}
 
 -- whether the option is a flag of this name, or one with a value
@@ -35,17 +38,33 @@ pub record HasRows (table : List Opt) (uses : List Use) (rows : List Row) : Type
   pub values : (n : Text) → has_flag n table ≡ false → first_of n rows ≡ value_in n uses
   pub flags : (n : Text) → has_valued n table ≡ false → FlagRow (is_used n uses) (one_of n rows)
 
--- the matches are those of a line
-pub record IsMatched (top : List Opt) (commands : Commands) (words : List Text) (m : ArgMatches)
-    : Type 0 where
-  pub main : List Use
-  pub word : Text
-  pub own : List Use
-  pub line : IsLine top commands words main word own
-  pub main_rows : HasRows top main (rows_of (found_of m))
-  pub rows : List Row
-  pub command : subcommand_rows_of m ≡ Some (word, rows)
-  pub own_rows : HasRows line.options own rows
+-- the words spell these uses of a table, each of which stands once, and what has to stand does
+pub record IsUses (table : List Opt) (words : List Text) (uses : List Use) : Type 0 where
+  pub words_are : words ≡ flat_map spelled uses
+  pub fit : AllByRecursion (Fits table) uses
+  pub once : AreOnce [] uses
+  pub required : AllByRecursion (IsMet uses) table
+
+-- the matches are those of words that spell uses of a table
+pub record IsMatched (table : List Opt) (words : List Text) (m : ArgMatches) : Type 0 where
+  pub uses : List Use
+  pub spell : IsUses table words uses
+  pub held : HasRows table uses (rows_of (found_of m))
+
+-- whether a name isn't empty and has no `=`
+abbrev pub is_good_name : Text → Bool
+is_good_name [] = false
+is_good_name (z ∷ zs) = not (has_byte 61 (z ∷ zs))
+
+-- whether no flag has the name of this option, if it is one with a value
+abbrev pub is_clear : List Opt → Opt → Bool
+is_clear table (valued n q) = not (has_flag n table)
+is_clear table (flag n) = true
+
+-- whether clap says all of a command with these options, each of which has a name of its kind
+abbrev pub is_table : List Opt → Bool
+is_table table = is_simple (flat_app table) && (is_simple_and_free (flat_app table)
+    && (list_all (is_clear table) table && list_all (λ o. is_good_name (opt_name o)) table))
 
 -- what the rows of the main options say
 abbrev pub main_rows : List Row → MainFields

@@ -2,6 +2,7 @@
 use Rattle.std.specs.Prelude.{◌≡◌, true, false, List, map, option_map, string_bytes}
 use Rattle.med_words.specs.Grammar.{Text, Opt, valued, flag, Use, IsLine}
 use Rattle.med_words.specs.Request.{Asked}
+use Rattle.med_words.specs.Matched.{IsUses}
 use Rattle.med_words.specs.Tables.{main_options, commands, Action, backup, backup_cluster, build_index, delete_backup, download, fetch_tokenmap, last_complete, list_backups, purge, purge_decommissioned, report_last, restore_cluster, restore_node, status, verify, jobs, rehearse}
 use Rattle.med_words.specs.declared.request.Command.{Command}
 use Rattle.med_words.specs.declared.request.Command.TheVariants as command
@@ -51,6 +52,18 @@ own_view o = record {
 -- the same by the names of the options
 abbrev pub said_view : Own → Said
 said_view o = said_in (own_view o)
+
+-- the words spell main options that say this
+pub record HasMain (words : List Text) (m : Main) : Type 0 where
+  pub uses : List Use
+  pub spell : IsUses main_options words uses
+  pub said : main_view m ≡ main_fields uses
+
+-- the words spell options of this table that say this
+pub record HasOwn (table : List Opt) (words : List Text) (o : Own) : Type 0 where
+  pub uses : List Use
+  pub spell : IsUses table words uses
+  pub said : own_view o ≡ fields_of (said_by uses)
 
 -- the words are this line
 pub record HasLine (words : List Text) (l : Line) : Type 0 where

@@ -7,6 +7,7 @@
 
 mod app;
 mod command;
+mod cut;
 mod laws;
 mod line;
 mod read;

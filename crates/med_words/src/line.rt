@@ -1,15 +1,17 @@
 // The words of a line, read by clap.
-ghost use Rattle.std.specs.Prelude.{◌≡◌, Bool, List, IfOk, IsErrOf, map, string_bytes, codes, option_map};
-ghost use Rattle.std.specs.List.{AllByRecursion};
+ghost use Rattle.std.specs.Prelude.{◌≡◌, true, Some, ◌++◌, ◌∷◌, Bool, List, IfOk, IsErrOf, map, string_bytes, codes, option_map};
+ghost use Rattle.std.specs.List.{AllByRecursion, flat_map};
 ghost use Rattle.clap.specs.Words.{found_of};
 ghost use Rattle.clap.specs.Walk.{first_of, one_of, rows_of};
-ghost use Rattle.med_words.specs.Grammar.{Text, Use, IsLine};
+ghost use Rattle.med_words.specs.Grammar.{Text, Use, IsLine, spelled, options_of};
 ghost use Rattle.med_words.specs.WellFormed.{IsWellFormed};
-ghost use Rattle.med_words.specs.Matched.{IsMatched, FlagRow, main_rows, own_rows};
+ghost use Rattle.med_words.specs.Matched.{IsMatched, IsUses, is_table, FlagRow, main_rows, own_rows};
 ghost use Rattle.med_words.specs.Tables.{main_options, commands};
-ghost use Rattle.med_words.specs.Views.{main_view, own_view, HasLine};
+ghost use Rattle.med_words.specs.Views.{opt_view, main_view, own_view, HasLine, HasMain, HasOwn};
 
 use crate::app::command;
+use crate::cut::{Cut, at_word};
+use crate::table::{Opt, main_table, options_for};
 use crate::well_formed::are_well_formed;
 use clap::ArgMatches;
 use clap::error::ErrorKind;
@@ -55,14 +57,19 @@ pub(crate) enum LineError {
 }
 
 /// The matches of words of which each may be handed on.
-fn matched<'a>(alloc: Global, words: &'a [String]) -> Result<ArgMatches<'a>, LineError>
-    requires { AllByRecursion IsWellFormed (map string_bytes words.now) }
+fn matched<'a>(
+    alloc: Global,
+    table: &[Opt<'a>],
+    words: &'a [String],
+) -> Result<ArgMatches<'a>, LineError>
+    requires table { is_table (map opt_view table.now) ≡ true }
+    requires words { AllByRecursion IsWellFormed (map string_bytes words.now) }
     ensures ok { IfOk result
-        (λ m. IsMatched main_options commands (map string_bytes words.entry.now) m) }
-    ensures line { IsErrOf result LineError.Line → (main own : List Use) (word : Text)
-        → IsLine main_options commands (map string_bytes words.entry.now) main word own → ⊥ }
+        (IsMatched (map opt_view table.entry.now) (map string_bytes words.entry.now)) }
+    ensures line { IsErrOf result LineError.Line → (uses : List Use)
+        → IsUses (map opt_view table.entry.now) (map string_bytes words.entry.now) uses → ⊥ }
 {
-    let Ok(command) = command(alloc) else {
+    let Ok(command) = command(alloc, table) else {
         return Err(LineError::Memory);
     };
     match command.try_get_matches_from(words) {
@@ -122,19 +129,64 @@ fn own_of<'a>(matches: &ArgMatches<'a>) -> Own<'a>
     }
 }
 
-/// The line that these are the matches of.
-fn line_of<'a>(matches: &ArgMatches<'a>) -> Line<'a>
-    requires { (words : List Text) × IsMatched main_options commands words matches.now }
-    ensures { (words : List Text) → IsMatched main_options commands words matches.now
-        → HasLine words result }
+/// What words that spell main options say.
+fn read_main<'a>(alloc: Global, words: &'a [String]) -> Result<Main<'a>, LineError>
+    requires { AllByRecursion IsWellFormed (map string_bytes words.now) }
+    ensures ok { IfOk result (HasMain (map string_bytes words.entry.now)) }
+    ensures line { IsErrOf result LineError.Line → (uses : List Use)
+        → IsUses main_options (map string_bytes words.entry.now) uses → ⊥ }
 {
-    let Some((word, own)) = matches.subcommand() else {
-        unreachable!();
+    match matched(alloc, main_table(), words) {
+        Ok(matches) => Ok(main_of(&matches)),
+        Err(error) => Err(error),
+    }
+}
+
+/// What words that spell these options of a command word say.
+fn read_own<'a>(
+    alloc: Global,
+    options: &'a [Opt<'a>],
+    words: &'a [String],
+) -> Result<Own<'a>, LineError>
+    requires options { (word : Text) × (options_of commands word ≡ Some (map opt_view options.now)) }
+    requires words { AllByRecursion IsWellFormed (map string_bytes words.now) }
+    ensures ok { IfOk result
+        (HasOwn (map opt_view options.entry.now) (map string_bytes words.entry.now)) }
+    ensures line { IsErrOf result LineError.Line → (uses : List Use)
+        → IsUses (map opt_view options.entry.now) (map string_bytes words.entry.now) uses → ⊥ }
+{
+    match matched(alloc, options, words) {
+        Ok(matches) => Ok(own_of(&matches)),
+        Err(error) => Err(error),
+    }
+}
+
+/// The line that well formed words are, cut at its command word.
+fn line_at<'a>(alloc: Global, parts: &Cut<'a>) -> Result<Line<'a>, LineError>
+    requires main { AllByRecursion IsWellFormed (map string_bytes parts.now.main.now) }
+    requires own { AllByRecursion IsWellFormed (map string_bytes parts.now.own.now) }
+    ensures ok { IfOk result (λ l. (words : List Text)
+        → words ≡ map string_bytes parts.entry.now.main.now
+        ++ parts.entry.now.word.now ∷ map string_bytes parts.entry.now.own.now → HasLine words l) }
+    ensures line { IsErrOf result LineError.Line → (words : List Text) (main own : List Use)
+        → IsLine main_options commands words main parts.entry.now.word.now own
+        → map string_bytes parts.entry.now.main.now ≡ flat_map spelled main
+        → map string_bytes parts.entry.now.own.now ≡ flat_map spelled own → ⊥ }
+{
+    let Some(options) = options_for(parts.word) else {
+        return Err(LineError::Line);
     };
-    Line {
-        main: main_of(matches),
-        word,
-        own: own_of(own),
+    let main = match read_main(alloc, parts.main) {
+        Ok(main) => main,
+        Err(error) => return Err(error),
+    };
+    match read_own(alloc, options, parts.own) {
+        Ok(own) => Ok(Line {
+            main,
+            word: parts.word,
+            own,
+        }),
+        Err(error) => Err(error),
     }
 }
 
@@ -147,8 +199,8 @@ pub(crate) fn read_line<'a>(alloc: Global, words: &'a [String]) -> Result<Line<'
     if !are_well_formed(words) {
         return Err(LineError::Line);
     }
-    match matched(alloc, words) {
-        Ok(matches) => Ok(line_of(&matches)),
-        Err(error) => Err(error),
+    match at_word(words) {
+        Some(parts) => line_at(alloc, &parts),
+        None => Err(LineError::Line),
     }
 }

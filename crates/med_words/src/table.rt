@@ -1,5 +1,6 @@
 // The tables of the command line: the main options, and a row for each command word.
-ghost use Rattle.std.specs.Prelude.{◌≡◌, map};
+ghost use Rattle.std.specs.Prelude.{◌≡◌, map, option_map};
+ghost use Rattle.med_words.specs.Grammar.{options_of};
 ghost use Rattle.med_words.specs.Views.{opt_view, row_view};
 ghost use Rattle.med_words.specs.Tables.{main_options, commands};
 
@@ -105,9 +106,26 @@ pub(crate) fn main_table() -> &'static [Opt<'static>]
     &MAIN
 }
 
-/// Each command word with its options.
-pub(crate) fn command_table() -> &'static [Row<'static>]
-    ensures { map row_view result.now ≡ commands }
+/// The options of that command word among these.
+fn options_in<'a>(rows: &'a [Row<'a>], word: &str) -> Option<&'a [Opt<'a>]>
+    ensures { option_map (λ o. map opt_view o.now) result
+        ≡ options_of (map row_view rows.now) word.now }
 {
-    COMMANDS
+    match rows {
+        [] => None,
+        [first, rest @ ..] => {
+            if first.word == word {
+                Some(first.options)
+            } else {
+                options_in(rest, word)
+            }
+        }
+    }
+}
+
+/// The options of that command word, if it is one.
+pub(crate) fn options_for<'a>(word: &str) -> Option<&'a [Opt<'a>]>
+    ensures { option_map (λ o. map opt_view o.now) result ≡ options_of commands word.now }
+{
+    options_in(COMMANDS, word)
 }

@@ -1,0 +1,68 @@
+// A line, cut at its command word.
+ghost use Rattle.std.specs.Prelude.{◌≡◌, ◌≤◌, None, false, IfSome, map, string_bytes, length, not, ◌++◌, ◌∷◌};
+ghost use Rattle.clap.specs.Lexer.{has_byte};
+ghost use Rattle.med_words.specs.Cut.{is_plain, main_count, parts};
+
+/// The words before the command word, it, and the words behind it.
+#[derive(Clone, Copy)]
+pub(crate) struct Cut<'a> {
+    pub(crate) main: &'a [String],
+    pub(crate) word: &'a str,
+    pub(crate) own: &'a [String],
+}
+
+/// The word is a name of an option alone.
+fn lacks_equals(word: &str) -> bool
+    ensures { result ≡ not (has_byte 61 word.now) }
+{
+    !word.as_bytes().contains(&b'=')
+}
+
+/// The word isn't empty, and begins with no hyphen.
+fn begins_plain(word: &str) -> bool
+    ensures { result ≡ is_plain word.now }
+{
+    match word.as_bytes() {
+        [] => false,
+        [first, ..] => *first != b'-',
+    }
+}
+
+/// How many words stand before the command word, of which the first is a value where that is said.
+fn count_main(is_value: bool, words: &[String]) -> usize
+    ensures value { result ≡ main_count is_value (map string_bytes words.now) }
+    ensures bound { result ≤ length words.now }
+{
+    match words {
+        [] => 0,
+        [first, rest @ ..] => {
+            if is_value {
+                1 + count_main(false, rest)
+            } else if begins_plain(first.as_str()) {
+                0
+            } else {
+                1 + count_main(lacks_equals(first.as_str()), rest)
+            }
+        }
+    }
+}
+
+/// The words, cut at the command word, or none where no word is left for it.
+pub(crate) fn at_word(words: &[String]) -> Option<Cut<'_>>
+    ensures some { IfSome result (λ c. map string_bytes words.now
+        ≡ (parts c).0 ++ (parts c).1 ∷ (parts c).2) }
+    ensures count { IfSome result
+        (λ c. length c.main.now ≡ main_count false (map string_bytes words.now)) }
+    ensures none { result ≡ None
+        → length words.now ≤ main_count false (map string_bytes words.now) }
+{
+    let (main, rest) = words.split_at(count_main(false, words));
+    match rest {
+        [] => None,
+        [word, own @ ..] => Some(Cut {
+            main,
+            word: word.as_str(),
+            own,
+        }),
+    }
+}
