@@ -1,13 +1,16 @@
 -- Where the objects behind the end of a page begin, and what a page has of them.
-use Rattle.std.proofs.Common.{◌≡◌, ◌∙◌, ◌<◌, ◌≤◌, ◌+◌, ◌-◌, ◌==◌, min, ℕ, zero, suc, Bool, true, false, List, [], ◌∷◌, Option, Some, None, take, drop, length, get_or, slice_get, IfSome, inl, inr, refl, sym, ap, arith, leb-true, leb-false}
+use Rattle.std.proofs.Common.{◌≡◌, ◌∙◌, ◌<◌, ◌≤◌, ◌+◌, ◌-◌, ◌==◌, min, ℕ, zero, suc, Bool, true, false, List, [], ◌∷◌, ◌++◌, Option, Some, None, take, drop, length, get_or, slice_get, IfSome, inl, inr, refl, sym, ap, append-nil, arith, map, leb-true, leb-false}
 use Rattle.std.specs.Prelude.{nat_le, if◌then◌else◌}
 use Rattle.std.specs.Ordering.{is_lt}
 use Rattle.std.specs.Cmp.{tied_back}
 use Rattle.std.specs.Cmp.Lexicographic.{nat_list_cmp_total}
 use Rattle.std.specs.FinMap.{entries}
-use Rattle.std.proofs.Math.Seq.{drop-nil}
+use Rattle.std.proofs.Math.Seq.{drop-nil, take-nil}
 use Rattle.std.proofs.lemmas.Bool.{cases_lt, eqb-true, eq-eqb}
-use Rattle.std.proofs.lemmas.List.{length-take}
+use Rattle.std.proofs.lemmas.List.{length-take, map-append}
+use Rattle.std.proofs.lemmas.List.Elements.{filter-append}
+use Rattle.std.specs.List.{filter}
+use Rattle.med_base.proofs.Lists.{map_next}
 use Rattle.med_base.specs.Content.{Content, Object, is_under}
 use Rattle.med_outside.specs.Storage.{entry_of}
 use Rattle.med_outside.specs.Pages.{page_size, page_end, last_path, is_behind, behind, left_of, IsPage, CountsDown, CountsRight}
@@ -117,22 +120,96 @@ ended_is size all =
     else Some (record { path = last_path (take size all); left = length all - size }))
     (sym (no_rest (length all) size))
 
-module _ (size : ℕ) (all items shown : List Entry) (left : ℕ) (are : items ≡ all)
-    (first : shown ≡ take size items) (rest : left ≡ length items - size) where
-  end_is_of : ended_by shown left ≡ ended size all
-  end_is_of =
-      ap (ended_by shown) (rest ∙ ap (λ (l : List Entry). length l - size) are)
-      ∙ ap (λ (l : List Entry). ended_by l (length all - size)) (first ∙ ap (take size) are)
-      ∙ ended_is size all
-
 -- what is left behind the first entries, of a page that has them
-pub has_first : (all items shown : List Entry) (left : ℕ) (page : Page) → items ≡ all
-    → shown ≡ page.entries.items → page.entries.items ≡ take page_size items
-    → left ≡ length items - page_size → page.end ≡ ended_by shown left → HasFirst all page
-has_first all items shown left page are is first rest end = record {
-  entries = first ∙ ap (take page_size) are;
-  end_is = end ∙ end_is_of page_size all items shown left are (is ∙ first) rest;
-}
+pub has_first : (all items : List Entry) (left : ℕ) (page : Page) → items ≡ all
+    → page.entries.items ≡ take page_size items → left ≡ length items - page_size
+    → page.end ≡ ended_by page.entries.items left → HasFirst all page
+has_first all items left page are first rest end =
+    let entries_are = first ∙ ap (take page_size) are in
+    record {
+      entries = entries_are;
+      end_is =
+          end
+          ∙ ap (ended_by page.entries.items)
+          (rest ∙ ap (λ (l : List Entry). length l - page_size) are)
+          ∙ ap (λ (l : List Entry). ended_by l (length all - page_size)) entries_are
+          ∙ ended_is page_size all;
+    }
+
+-- ---- the first of them, object by object
+
+-- one more, where the first aren't full
+take_short : {A : Type 0} (n : ℕ) (xs : List A) (x : A) → length (take n xs) < n
+    → take n (xs ++ x ∷ []) ≡ take n xs ++ x ∷ []
+take_short zero xs x short = absurd (omega (arith, short))
+take_short {A} (suc n) [] x short = ap (λ (ys : List A). x ∷ ys) (take-nil n)
+take_short {A} (suc n) (y ∷ xs) x short =
+    ap (λ (ys : List A). y ∷ ys) (take_short n xs x (omega (arith, short)))
+
+-- no more, where they are full
+take_full : {A : Type 0} (n : ℕ) (xs : List A) (x : A) → n ≤ length (take n xs)
+    → take n (xs ++ x ∷ []) ≡ take n xs
+take_full zero xs x full = refl
+take_full (suc n) [] x full = absurd (omega (arith, full))
+take_full {A} (suc n) (y ∷ xs) x full =
+    ap (λ (ys : List A). y ∷ ys) (take_full n xs x (omega (arith, full)))
+
+module _ (text : List ℕ) (os : List MemObject) (i : ℕ) (o : MemObject) (lt : i < length os)
+    (at : o ≡ get_or os i o) where
+  -- the entries of the objects up to a place
+  abbrev to : ℕ → List Entry
+  to k = listed_under text (pairs (take k os))
+
+  abbrev here : Entry
+  here = entry_of (o.path, object_of o)
+
+  more : pairs (take (i + 1) os) ≡ pairs (take i os) ++ (o.path, object_of o) ∷ []
+  more = map_next (λ (q : MemObject). (q.path, object_of q)) os i o lt at
+
+  abbrev under : List (List ℕ × Object) → List (List ℕ × Object)
+  under = filter (λ (e : List ℕ × Object). is_under text e.0)
+
+  listed_more : to (i + 1)
+      ≡ to i ++ map entry_of (under ((o.path, object_of o) ∷ []))
+  listed_more =
+      ap (listed_under text) more
+      ∙ ap (map entry_of) (filter-append _ (pairs (take i os)) _)
+      ∙ map-append entry_of (under (pairs (take i os))) _
+
+  -- an object that is listed, and one that isn't
+  to_next : is_under text o.path ≡ true → to (i + 1) ≡ to i ++ here ∷ []
+  to_next is = listed_more ∙ rw is refl
+
+  to_same : is_under text o.path ≡ false → to (i + 1) ≡ to i
+  to_same is = listed_more ∙ rw is (append-nil (to i))
+
+  module _ (xs : List Entry) (are : xs ≡ take page_size (to i)) where
+    -- one more is listed
+    pub first_next : length xs < page_size → is_under text o.path ≡ true
+        → xs ++ here ∷ [] ≡ take page_size (to (i + 1))
+    first_next short is =
+        let room : length (take page_size (to i)) < page_size =
+        omega (arith, short, ap length (sym are)) in
+        ap (λ (l : List Entry). l ++ here ∷ []) are
+        ∙ sym (take_short page_size (to i) here room)
+        ∙ ap (take page_size) (sym (to_next is))
+
+    -- it isn't listed
+    pub first_other : is_under text o.path ≡ false → xs ≡ take page_size (to (i + 1))
+    first_other is = are ∙ ap (take page_size) (sym (to_same is))
+
+    -- the page is full
+    pub first_full : page_size ≤ length xs → xs ≡ take page_size (to (i + 1))
+    first_full full = go (is_under text o.path) refl
+      where
+        go : (b : Bool) → is_under text o.path ≡ b → xs ≡ take page_size (to (i + 1))
+        go false is = first_other is
+        go true is =
+            let held : page_size ≤ length (take page_size (to i)) =
+            omega (arith, full, ap length (sym are)) in
+            are
+            ∙ sym (take_full page_size (to i) here held)
+            ∙ ap (take page_size) (sym (to_next is))
 
 abbrev pub path_of : Option Entry → List ℕ
 path_of None = []

@@ -1,7 +1,8 @@
 // Listings of a storage in memory, in pages.
-ghost use Rattle.std.specs.Prelude.{◌≡◌, ◌≤◌, ◌==◌, Some, None, IfOk, drop, length, if◌then◌else◌};
-ghost use Rattle.med_outside.specs.Pages.{last_path, shown};
-ghost use Rattle.med_mem.specs.Objects.{pairs, AreInOrder, listed_under};
+ghost use Rattle.std.specs.Prelude.{◌≡◌, ◌≤◌, ◌==◌, Some, None, IfOk, take, drop, length, if◌then◌else◌};
+ghost use Rattle.med_outside.specs.Pages.{last_path, page_size, shown};
+ghost use Rattle.med_outside.specs.Storage.{entry_of};
+ghost use Rattle.med_mem.specs.Objects.{pairs, object_of, AreInOrder, listed_under};
 ghost use Rattle.med_mem.specs.Pages.{those_behind, listed_behind, HasFirst};
 
 use crate::MemObject;
@@ -29,21 +30,43 @@ fn place_behind(objects: &[MemObject], after: Option<&PageEnd>) -> usize
     }
 }
 
-// The objects whose path begins with a text.
-fn list_under(alloc: Global, objects: &[MemObject], under: &str) -> Result<Vec<Entry>, NoMemory>
-    ensures { IfOk result (λ entries. entries.items ≡ listed_under under.now (pairs objects.now)) }
+// An object as a listing has it.
+fn new_entry(alloc: Global, object: &MemObject) -> Result<Entry, NoMemory>
+    ensures { IfOk result (λ entry. entry ≡ entry_of (object.now.path, object_of object.now)) }
+{
+    let path = object.path.copy(alloc)?;
+    Ok(Entry {
+        path,
+        size: object.bytes.as_slice().len() as u64,
+        second: object.second,
+    })
+}
+
+// The first objects whose path begins with a text, as many as a page has.
+fn list_first(alloc: Global, objects: &[MemObject], under: &str) -> Result<Vec<Entry>, NoMemory>
+    ensures { IfOk result
+        (λ entries. entries.items ≡ take page_size (listed_under under.now (pairs objects.now))) }
 {
     let mut entries = Vec::new(alloc);
     for object in objects {
-        if is_listed(object, under) {
-            entries.push(Entry {
-                path: object.path.copy(alloc)?,
-                size: object.bytes.as_slice().len() as u64,
-                second: object.second,
-            })?;
+        if entries.len() < PAGE_SIZE && is_listed(object, under) {
+            entries.push(new_entry(alloc, object)?)?;
         }
     }
     Ok(entries)
+}
+
+// How many objects have a path that begins with a text.
+fn count_under(objects: &[MemObject], under: &str) -> usize
+    ensures { result ≡ length (listed_under under.now (pairs objects.now)) }
+{
+    let mut count = 0usize;
+    for object in objects {
+        if is_listed(object, under) {
+            count += 1;
+        }
+    }
+    count
 }
 
 // The path of the last entry, and an empty one where there is none.
@@ -81,9 +104,8 @@ pub(crate) fn page_under(
         (HasFirst (listed_behind under.now (shown after.entry) (pairs objects.now))) }
 {
     let (_, rest) = objects.split_at(place_behind(objects, after));
-    let mut entries = list_under(alloc, rest, under)?;
-    let left = entries.len().saturating_sub(PAGE_SIZE);
-    entries.truncate(PAGE_SIZE);
+    let entries = list_first(alloc, rest, under)?;
+    let left = count_under(rest, under).saturating_sub(PAGE_SIZE);
     let end = end_of(alloc, entries.as_slice(), left as u64)?;
     Ok(Page { entries, end })
 }

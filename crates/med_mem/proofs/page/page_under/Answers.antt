@@ -7,10 +7,9 @@ pub returns : goal.returns
 returns c =
     let text = c.args.under.now in
     let all =
-    c.in_ok-entries.ensures
-    ∙ ap (λ os. listed_under text (pairs os)) c.split_at.ensures.back
+    ap (λ os. listed_under text (pairs os)) c.split_at.ensures.back
     ∙ ap (listed_under text) c.place_behind.ensures.behind
     ∙ listed_those text _ _ in
-    has_first _ _ _ _ _ all c.as_slice.ensures.value c.truncate.ensures.items
-    (omega (arith, c.saturating_sub-left.ensures, c.len.ensures, c.in_ok-entries.entries.ok))
-    c.in_ok-end.ensures
+    has_first _ _ _ _ all c.in_ok-entries.ensures
+    (omega (arith, c.saturating_sub-left.ensures, c.count_under.ensures))
+    (rw (c.as_slice.ensures.value) at c.in_ok-end.ensures)
