@@ -1,5 +1,5 @@
 // A line, cut at its command word.
-ghost use Rattle.std.specs.Prelude.{◌≡◌, ◌≤◌, None, false, IfSome, map, string_bytes, length, not, ◌++◌, ◌∷◌};
+ghost use Rattle.std.specs.Prelude.{◌≡◌, ◌≤◌, ◌&&◌, None, false, IfSome, map, string_bytes, length, not, ◌++◌, ◌∷◌};
 ghost use Rattle.clap.specs.Lexer.{has_byte};
 ghost use Rattle.med_words.specs.Cut.{is_plain, main_count, parts};
 
@@ -28,23 +28,26 @@ fn begins_plain(word: &str) -> bool
     }
 }
 
-/// How many words stand before the command word, of which the first is a value where that is said.
-fn count_main(is_value: bool, words: &[String]) -> usize
-    ensures value { result ≡ main_count is_value (map string_bytes words.now) }
+// Whether the next word is the value of this one, which is itself no value.
+fn takes_next(is_value: bool, word: &str) -> bool
+    ensures { result ≡ (not is_value && not (has_byte 61 word.now)) }
+{
+    !is_value && lacks_equals(word)
+}
+
+/// How many words stand before the command word.
+fn count_main(words: &[String]) -> usize
+    ensures value { result ≡ main_count false (map string_bytes words.now) }
     ensures bound { result ≤ length words.now }
 {
-    match words {
-        [] => 0,
-        [first, rest @ ..] => {
-            if is_value {
-                1 + count_main(false, rest)
-            } else if begins_plain(first.as_str()) {
-                0
-            } else {
-                1 + count_main(lacks_equals(first.as_str()), rest)
-            }
+    let mut is_value = false;
+    for (at, word) in words.iter().enumerate() {
+        if !is_value && begins_plain(word.as_str()) {
+            return at;
         }
+        is_value = takes_next(is_value, word.as_str());
     }
+    words.len()
 }
 
 /// The words, cut at the command word, or none where no word is left for it.
@@ -56,7 +59,7 @@ pub(crate) fn at_word(words: &[String]) -> Option<Cut<'_>>
     ensures none { result ≡ None
         → length words.now ≤ main_count false (map string_bytes words.now) }
 {
-    let (main, rest) = words.split_at(count_main(false, words));
+    let (main, rest) = words.split_at(count_main(words));
     match rest {
         [] => None,
         [word, own @ ..] => Some(Cut {
