@@ -1,6 +1,9 @@
 pub mod Finding
 pub mod Listings
+pub mod MendLemmas
+pub mod NewestLemmas
 pub mod NodeLemmas
+pub mod PlanLemmas
 pub mod RowLemmas
 pub mod RowOrder
 pub mod Sets

@@ -1,6 +1,7 @@
 pub mod Errors
 pub mod Marks
 pub mod Modes
+pub mod Planned
 pub mod Rebuilt
 pub mod Rows
 pub mod Visits

@@ -122,8 +122,8 @@ fn sort_rows(rows: &mut Vec<BackupRow>)
     rows.sort_unstable_by(row_order);
 }
 
-// What is found of the backups of the node.
-fn find_backups<S: Storage>(
+/// What is found of the backups of the node.
+pub(crate) fn find_backups<S: Storage>(
     alloc: Global,
     store: &mut S,
     layout: &Layout,

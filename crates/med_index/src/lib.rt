@@ -6,9 +6,11 @@
 #![tactic(auto)]
 
 mod backups;
+mod changes;
 mod entries;
 mod errors;
 mod marks;
+mod mend;
 mod meta;
 mod nodes;
 mod put;
@@ -19,5 +21,6 @@ mod walk;
 pub use backups::rows;
 pub use entries::{finish_entries, start_entries};
 pub use errors::{IndexError, ListError};
+pub use mend::mend_latest;
 pub use nodes::nodes_in;
 pub use rebuild::IndexReport;

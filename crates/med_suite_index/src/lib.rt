@@ -6,4 +6,6 @@
 #[cfg(test)]
 mod entries;
 #[cfg(test)]
+mod mend;
+#[cfg(test)]
 mod rows;

@@ -1,0 +1,244 @@
+-- A mend: the newest backup that was found is that of the content, and what is planned is made.
+use Rattle.std.proofs.Common.{◌≡◌, ◌≢◌, ◌∙◌, inl, inr, ℕ, Bool, true, false, cond, not, ◌&&◌, List, [], ◌∷◌, ◌++◌, map, length, Option, Some, None, option_map, IfSome, Contains, bytes_eq, refl, sym, ap, ap₂, subst, get_or}
+use Rattle.std.proofs.lemmas.Option.{same_Some}
+use Rattle.std.specs.BTreeMap.{BTreeMap, get as lookup}
+use Rattle.std.specs.FinMap as fin
+use Rattle.std.specs.List.{AllByRecursion, list_any}
+use Rattle.std.specs.Option.{option_to_list}
+use Rattle.med_base.proofs.Lists.{all_append, contains_map}
+use Rattle.med_base.specs.declared.kinds.LatestKind.{LatestKind}
+use Rattle.med_base.specs.declared.kinds.LatestKind.TheVariants as latest
+use Rattle.med_base.specs.declared.layout.MetaKind.TheVariants as meta_kind
+use Rattle.med_base.specs.Classify.{kind_of}
+use Rattle.med_base.specs.Content.{Content, Object}
+use Rattle.med_base.specs.Effects.{Effect, Removes, Stores}
+use Rattle.med_base.specs.Kinds.{Kind, Meta, Latest, IsFqdn}
+use Rattle.med_base.specs.Layout.{latest_path, meta_path}
+use Rattle.med_base.specs.NameOrder.{name_cmp}
+use Rattle.med_manifest.proofs.ByKind.{HasPath, folder, manifest_path, path_has, path_valid}
+use Rattle.med_manifest.proofs.Gets.{from_same, same_itself}
+use Rattle.med_manifest.proofs.Members.{IsListed, all_listed, all_so, is_listed}
+use Rattle.med_manifest.proofs.Newest.{and_first}
+use Rattle.med_manifest.specs.Listed.{paths_of, remove_if_stands}
+use Rattle.med_manifest.specs.Mend.{changes_of_mend, finished_at, has_bytes, is_later, is_manifest_outside, latest_of, mend_to, mend_tokenmap, name_in, newest, put_unless, second_or_zero}
+use Rattle.med_manifest.specs.Vault.{second_of}
+use Rattle.med_index.specs.declared.changes.Planned.{Planned}
+use Rattle.med_index.specs.declared.marks.Marks.{Marks}
+use Rattle.med_index.specs.Planned.{ArePlanned, IsNewestFound, IsOfLatestPlan, IsPlanOf, latest_to, object_to}
+use Rattle.med_index.specs.Rebuilt.{AreOfLatest, IsLatestOf, IsMend, changed}
+use Rattle.med_index.specs.Visits.{AreFound, found_second}
+use Rattle.med_index.proofs.NewestLemmas.{Finish, last_is, last_of_none}
+use Rattle.med_index.proofs.PlanLemmas.{latest_made, object_made, planned_apart}
+
+-- ---- the newest of the content
+
+module _ (before : List ℕ) (c : Content) (node f : List ℕ) (found : BTreeMap (List ℕ) Marks)
+    (all_found : AreFound node found before f c []) where
+  -- what was found of a backup whose manifest stands
+  manifest_found : (n : List ℕ) (o : Object) → HasPath before (Meta f n meta_kind.Manifest)
+      → fin.get c (meta_path before f n meta_kind.Manifest) ≡ Some o
+      → found_second meta_kind.Manifest (lookup name_cmp found n) ≡ Some o.second
+  manifest_found n o has stands =
+      let valid = path_valid before (Meta f n meta_kind.Manifest) tt has in
+      elim (all_found.all n meta_kind.Manifest o.second valid.1
+      (ap (option_map (λ (x : Object). x.second)) stands)) [
+        | inl there ↦ there
+        | inr later ↦ absurd later
+      ]
+
+  -- a manifest that is listed, with what was found of it
+  abbrev IsFinishFound : Finish → Type 0
+  IsFinishFound a = found_second meta_kind.Manifest (lookup name_cmp found a.1) ≡ Some a.0
+
+  finish_at : (p : List ℕ) (k : Kind) → kind_of before p ≡ k
+      → is_manifest_outside f [] k ≡ true → (o : Object) → fin.get c p ≡ Some o
+      → IsFinishFound (finished_at before c p)
+  finish_at p (Meta g n meta_kind.Manifest) e passes o stands =
+      let is : g ≡ f = from_same g f (and_first (bytes_eq g f) true passes) in
+      let kind : kind_of before p ≡ Meta f n meta_kind.Manifest =
+      e ∙ ap (λ h. Meta h n meta_kind.Manifest) is in
+      let here : p ≡ meta_path before f n meta_kind.Manifest = manifest_path before p f n kind in
+      let got = manifest_found n o (ap (kind_of before) (sym here) ∙ kind)
+      (ap (fin.get c) (sym here) ∙ stands) in
+      subst IsFinishFound
+      (sym (λ i. (second_or_zero (stands i), name_in (kind i)))) got
+  finish_at p _ e passes o stands = absurd (cc)
+
+  all_finishes : (ps : List (List ℕ))
+      → AllByRecursion (IsListed before c (is_manifest_outside f [])) ps
+      → AllByRecursion IsFinishFound (map (finished_at before c) ps)
+  all_finishes [] all = tt
+  all_finishes (p ∷ ps) all =
+      (finish_at p (kind_of before p) refl all.0.0 all.0.1.0 all.0.1.1, all_finishes ps all.1)
+
+  finishes : List Finish
+  finishes = map (finished_at before c) (paths_of before c (is_manifest_outside f []))
+
+  finishes_found : AllByRecursion IsFinishFound
+      (map (finished_at before c) (paths_of before c (is_manifest_outside f [])))
+  finishes_found =
+      all_finishes (paths_of before c (is_manifest_outside f []))
+      (all_listed before c (is_manifest_outside f []))
+
+  some_object : (o : Option Object) (second : ℕ)
+      → option_map (λ (x : Object). x.second) o ≡ Some second
+      → (x : Object) × (o ≡ Some x) × (x.second ≡ second)
+  some_object None second is = absurd (cc)
+  some_object (Some x) second is = (x, refl, same_Some x.second second is)
+
+  -- a finished backup that was found is among those of the content
+  among_finishes : (b : Finish) → HasPath before (Meta f b.1 meta_kind.Manifest)
+      → IsFinishFound b
+      → Contains (map (finished_at before c) (paths_of before c (is_manifest_outside f []))) b
+  among_finishes b has got =
+      let path = meta_path before f b.1 meta_kind.Manifest in
+      let (o, stands, second) = some_object (fin.get c path) b.0
+      (all_found.stands b.1 meta_kind.Manifest b.0 got) in
+      let passes : is_manifest_outside f [] (kind_of before path) ≡ true =
+      ap (is_manifest_outside f []) has ∙ ap (λ t. t && true) (same_itself f) in
+      let (k, less, there) = is_listed before c (is_manifest_outside f []) path o passes stands in
+      let mapped = contains_map (finished_at before c)
+      (paths_of before c (is_manifest_outside f [])) k path less (sym there) in
+      subst
+      (Contains (map (finished_at before c) (paths_of before c (is_manifest_outside f []))))
+      (λ i. ((ap second_or_zero stands ∙ second) i, name_in (has i))) mapped
+
+  -- the newest that was found is that of the content
+  pub newest_told : (b : Option Finish)
+      → IfSome b (λ a. HasPath before (Meta f a.1 meta_kind.Manifest)) → IsNewestFound found b
+      → newest before c f [] ≡ b
+  newest_told None has none =
+      last_of_none _
+      (all_so IsFinishFound (λ a. ⊥) (λ a got. none a.1 a.0 got) _ finishes_found)
+  newest_told (Some b) has (got, last) =
+      last_is _ b (among_finishes b has got)
+      (all_so IsFinishFound (λ a. is_later a b ≡ false) (λ a is. last a.1 a.0 is) _
+      finishes_found)
+
+-- ---- the plan
+
+module _ (before : List ℕ) (c : Content) (f : List ℕ) where
+  -- the plans of both latest objects
+  pub both_made : (name ring : Option (List ℕ)) (first second : Option Planned) (xs : List Effect)
+      → IsPlanOf c (latest_path before f latest.Name) name first
+      → IsPlanOf c (latest_path before f latest.Tokenmap) ring second
+      → ArePlanned (option_to_list first ++ option_to_list second) xs
+      → (seconds : ℕ → ℕ) × (xs ≡ latest_to before c f name ring seconds)
+  both_made name ring first second xs a b planned =
+      let (ys, zs, is, one, two) = planned_apart (option_to_list first) (option_to_list second) xs
+      planned in
+      let (s, made) = object_made c (latest_path before f latest.Name) name first ys a one in
+      let (t, more) = object_made c (latest_path before f latest.Tokenmap) ring second zs b two in
+      (λ i. get_or (s ∷ t ∷ []) i 0, is ∙ ap₂ (λ l k. l ++ k) made more)
+
+  ring_to : (o : Option Object) (second : ℕ)
+      → object_to c (latest_path before f latest.Tokenmap)
+      (option_map (λ (x : Object). x.bytes) o) second
+      ≡ mend_tokenmap before c f o second
+  ring_to None second = refl
+  ring_to (Some o) second = refl
+
+  -- the latest objects of a backup are those of a mend to it
+  pub mend_to_is : (a : Finish) (ring : Option (List ℕ)) (seconds : ℕ → ℕ)
+      → ring ≡ option_map (λ (x : Object). x.bytes)
+      (fin.get c (meta_path before f a.1 meta_kind.Tokenmap))
+      → latest_to before c f (Some a.1) ring seconds ≡ mend_to before c f (Some a) seconds
+  mend_to_is a ring seconds is =
+      ap
+      (λ l. put_unless c (latest_path before f latest.Name) a.1 (seconds 0) ++ l)
+      (ap (λ r. object_to c (latest_path before f latest.Tokenmap) r (seconds 1)) is
+      ∙ ring_to (fin.get c (meta_path before f a.1 meta_kind.Tokenmap)) (seconds 1))
+
+  -- ---- a mend changes the latest objects of its node
+
+  module _ (node : IsFqdn f) where
+    latest_kind : (kind : LatestKind) → IsLatestOf f (kind_of before (latest_path before f kind))
+    latest_kind kind =
+        subst (IsLatestOf f) (sym (path_has before (Latest f kind) tt node)) refl
+
+    object_reach : (kind : LatestKind) (wanted : Option (List ℕ)) (second : ℕ)
+        → AreOfLatest before f (object_to c (latest_path before f kind) wanted second)
+    object_reach kind None second = by (fin.contains_key c (latest_path before f kind))
+      where
+        by : (t : Bool) → AreOfLatest before f (cond t (Removes (latest_path before f kind) ∷ []) [])
+        by true = (latest_kind kind, tt)
+        by false = tt
+    object_reach kind (Some bytes) second =
+        by (has_bytes (fin.get c (latest_path before f kind)) bytes)
+      where
+        by : (t : Bool) → AreOfLatest before f
+            (cond t [] (Stores (latest_path before f kind) bytes second ∷ []))
+        by true = tt
+        by false = (latest_kind kind, tt)
+
+    latest_reach : (name ring : Option (List ℕ)) (seconds : ℕ → ℕ)
+        → AreOfLatest before f (latest_to before c f name ring seconds)
+    latest_reach name ring seconds =
+        all_append (λ x. IsLatestOf f (kind_of before (changed x))) _ _
+        (object_reach latest.Name name (seconds 0)) (object_reach latest.Tokenmap ring (seconds 1))
+
+    pub mend_reach : (seconds : ℕ → ℕ)
+        → AreOfLatest before f (changes_of_mend before c f [] seconds)
+    mend_reach seconds = go (newest before c f [])
+      where
+        go : (b : Option Finish) → AreOfLatest before f (mend_to before c f b seconds)
+        go None = latest_reach None None seconds
+        go (Some a) =
+            subst (AreOfLatest before f) (mend_to_is a _ seconds refl)
+            (latest_reach (Some a.1) (option_map (λ (x : Object). x.bytes)
+            (fin.get c (meta_path before f a.1 meta_kind.Tokenmap))) seconds)
+
+-- ---- where the storage is told
+
+-- what is planned makes this list
+abbrev pub Becomes : List Planned → ((ℕ → ℕ) → List Effect) → Type 0
+Becomes ps list = (xs : List Effect) → ArePlanned ps xs → (seconds : ℕ → ℕ) × (xs ≡ list seconds)
+
+module _ (before f : List ℕ) (ps : List Planned) where
+  -- a plan for the newest that was found is one of a mend
+  pub mend_planned : (told : Option Content) (node : List ℕ) (found : BTreeMap (List ℕ) Marks)
+      (b : Option Finish)
+      → IfSome b (λ a. HasPath before (Meta f a.1 meta_kind.Tokenmap)) → IsNewestFound found b
+      → IfSome told (λ c. Becomes ps (mend_to before c f b))
+      → IfSome told (λ c. AreFound node found before f c []
+      → Becomes ps (changes_of_mend before c f []))
+  mend_planned None node found b has newest plan = tt
+  mend_planned (Some c) node found b has newest plan = λ all_found.
+      subst (λ a. Becomes ps (mend_to before c f a))
+      (sym (newest_told before c node f found all_found b (in_folder b has) newest)) plan
+    where
+      in_folder : (b : Option Finish)
+          → IfSome b (λ a. HasPath before (Meta f a.1 meta_kind.Tokenmap))
+          → IfSome b (λ a. HasPath before (Meta f a.1 meta_kind.Manifest))
+      in_folder None has = tt
+      in_folder (Some a) has = folder before f a.1 meta_kind.Tokenmap meta_kind.Manifest has
+
+  -- what was found before the plan
+  pub then_planned : (P Q : Content → Type 0) (told later : Option Content) → later ≡ told
+      → IfSome told P → IfSome later (λ c. P c → Q c) → IfSome told Q
+  then_planned P Q None later same found plan = tt
+  then_planned P Q (Some c) later same found plan =
+      subst (λ o. IfSome o (λ d. P d → Q d)) same plan found
+
+  -- what a plan of a mend becomes is a mend
+  pub mend_made : (told : Option Content) (xs : List Effect)
+      → IfSome told (λ c. Becomes ps (changes_of_mend before c f []))
+      → AllByRecursion (IsOfLatestPlan before f) ps → ArePlanned ps xs → IsMend before told f xs
+  mend_made told xs plan all planned = record {
+    reach = latest_made before f ps xs planned all;
+    list = go told plan;
+  }
+    where
+      go : (o : Option Content) → IfSome o (λ c. Becomes ps (changes_of_mend before c f []))
+          → IfSome o (λ c. (seconds : ℕ → ℕ) × (xs ≡ changes_of_mend before c f [] seconds))
+      go None plan = tt
+      go (Some c) plan = plan xs planned
+
+-- there is always a list of a mend
+pub some_mend : (before : List ℕ) (told : Option Content) (f : List ℕ) → IsFqdn f
+    → (xs : List Effect) × IsMend before told f xs
+some_mend before None f node = ([], record { reach = tt; list = tt })
+some_mend before (Some c) f node = (
+  changes_of_mend before c f [] (λ i. 0),
+  record { reach = mend_reach before c f node (λ i. 0); list = (λ i. 0, refl) },
+)
