@@ -1,5 +1,5 @@
 -- A mend: the newest backup that was found is that of the content, and what is planned is made.
-use Rattle.std.proofs.Common.{◌≡◌, ◌≢◌, ◌∙◌, inl, inr, ℕ, Bool, true, false, cond, not, ◌&&◌, List, [], ◌∷◌, ◌++◌, map, length, Option, Some, None, option_map, IfSome, Contains, bytes_eq, refl, sym, ap, ap₂, subst, get_or}
+use Rattle.std.proofs.Common.{◌≡◌, ◌≢◌, ◌∙◌, inl, inr, ℕ, Bool, true, false, cond, not, ◌&&◌, List, [], ◌∷◌, ◌++◌, map, length, Option, Some, None, option_map, IfSome, Result, Ok, Err, IfOk, OnOk, Contains, bytes_eq, refl, sym, ap, ap₂, subst, get_or}
 use Rattle.std.proofs.lemmas.Option.{same_Some}
 use Rattle.std.specs.BTreeMap.{BTreeMap, get as lookup}
 use Rattle.std.specs.FinMap as fin
@@ -194,6 +194,13 @@ module _ (before : List ℕ) (c : Content) (f : List ℕ) where
 abbrev pub Becomes : List Planned → ((ℕ → ℕ) → List Effect) → Type 0
 Becomes ps list = (xs : List Effect) → ArePlanned ps xs → (seconds : ℕ → ℕ) × (xs ≡ list seconds)
 
+-- what was found before the plan
+then_planned : (P Q : Content → Type 0) (told later : Option Content) → later ≡ told
+    → IfSome told P → IfSome later (λ c. P c → Q c) → IfSome told Q
+then_planned P Q None later same found plan = tt
+then_planned P Q (Some c) later same found plan =
+    subst (λ o. IfSome o (λ d. P d → Q d)) same plan found
+
 module _ (before f : List ℕ) (ps : List Planned) where
   -- a plan for the newest that was found is one of a mend
   pub mend_planned : (told : Option Content) (node : List ℕ) (found : BTreeMap (List ℕ) Marks)
@@ -212,13 +219,6 @@ module _ (before f : List ℕ) (ps : List Planned) where
           → IfSome b (λ a. HasPath before (Meta f a.1 meta_kind.Manifest))
       in_folder None has = tt
       in_folder (Some a) has = folder before f a.1 meta_kind.Tokenmap meta_kind.Manifest has
-
-  -- what was found before the plan
-  pub then_planned : (P Q : Content → Type 0) (told later : Option Content) → later ≡ told
-      → IfSome told P → IfSome later (λ c. P c → Q c) → IfSome told Q
-  then_planned P Q None later same found plan = tt
-  then_planned P Q (Some c) later same found plan =
-      subst (λ o. IfSome o (λ d. P d → Q d)) same plan found
 
   -- what a plan of a mend becomes is a mend
   pub mend_made : (told : Option Content) (xs : List Effect)
@@ -242,3 +242,85 @@ some_mend before (Some c) f node = (
   changes_of_mend before c f [] (λ i. 0),
   record { reach = mend_reach before c f node (λ i. 0); list = (λ i. 0, refl) },
 )
+
+-- ---- calls in a row
+
+module _ (before f : List ℕ) where
+  -- the plans of both latest objects, of which the second was made after the first
+  pub latest_planned : (told later : Option Content) (name ring : Option (List ℕ))
+      (first second : Option Planned) (ps : List Planned) → later ≡ told
+      → ps ≡ option_to_list first ++ option_to_list second
+      → IfSome told (λ c. IsPlanOf c (latest_path before f latest.Name) name first)
+      → IfSome later (λ c. IsPlanOf c (latest_path before f latest.Tokenmap) ring second)
+      → IfSome told (λ c. Becomes ps (latest_to before c f name ring))
+  latest_planned None later name ring first second ps same is a b = tt
+  latest_planned (Some c) later name ring first second ps same is a b = λ xs planned.
+      both_made before c f name ring first second xs a
+      (subst (λ o. IfSome o
+      (λ d. IsPlanOf d (latest_path before f latest.Tokenmap) ring second)) same b)
+      (subst (λ l. ArePlanned l xs) is planned)
+
+  -- the plan for the latest objects of a backup, whose token map was read before
+  pub newest_planned : {X E : Type 0} (items : X → List Planned) (n : List ℕ)
+      (told later : Option Content) (name ring found : Option (List ℕ)) (r : Result X E)
+      → later ≡ told → name ≡ Some n → ring ≡ found
+      → IfSome told (λ c. found ≡ option_map (λ (x : Object). x.bytes)
+      (fin.get c (meta_path before f n meta_kind.Tokenmap)))
+      → IfOk r (λ x. IfSome later (λ c. Becomes (items x) (latest_to before c f name ring)))
+      → IfOk r (λ x. IfSome told (λ c. (newest : Finish) → newest.1 ≡ n
+      → Becomes (items x) (mend_to before c f (Some newest))))
+  newest_planned items n told later name ring found (Err e) same is lent answer plan = tt
+  newest_planned items n None later name ring found (Ok x) same is lent answer plan = tt
+  newest_planned items n (Some c) later name ring found (Ok x) same is lent answer plan =
+      λ newest named xs planned.
+      let here = subst
+      (λ o. IfSome o (λ d. Becomes (items x) (latest_to before d f name ring))) same plan in
+      let (seconds, list) = here xs planned in
+      let ring_is = lent ∙ answer
+      ∙ ap (λ m. option_map (λ (x : Object). x.bytes)
+      (fin.get c (meta_path before f m meta_kind.Tokenmap))) (sym named) in (
+        seconds,
+        list ∙ ap (λ m. latest_to before c f m ring seconds) (is ∙ ap Some (sym named))
+            ∙ mend_to_is before c f newest ring seconds ring_is,
+      )
+
+  -- the plan for the newest backup that was found, or where there is none
+  pub none_planned : {X E : Type 0} (items : X → List Planned) (told : Option Content)
+      (node : List ℕ) (found : BTreeMap (List ℕ) Marks) (r : Result X E)
+      → IsNewestFound found None
+      → IfOk r (λ x. IfSome told (λ c. Becomes (items x) (mend_to before c f None)))
+      → IfOk r (λ x. IfSome told (λ c. AreFound node found before f c []
+      → Becomes (items x) (changes_of_mend before c f [])))
+  none_planned items told node found (Err e) none plan = tt
+  none_planned items told node found (Ok x) none plan =
+      mend_planned before f (items x) told node found None tt none plan
+
+  pub some_planned : {X E : Type 0} (items : X → List Planned) (told : Option Content)
+      (node : List ℕ) (found : BTreeMap (List ℕ) Marks) (r : Result X E) (a : Finish)
+      → IsNewestFound found (Some a) → OnOk r (HasPath before (Meta f a.1 meta_kind.Tokenmap))
+      → IfOk r (λ x. IfSome told (λ c. (newest : Finish) → newest.1 ≡ a.1
+      → Becomes (items x) (mend_to before c f (Some newest))))
+      → IfOk r (λ x. IfSome told (λ c. AreFound node found before f c []
+      → Becomes (items x) (changes_of_mend before c f [])))
+  some_planned items told node found (Err e) a is has plan = tt
+  some_planned items told node found (Ok x) a is has plan =
+      mend_planned before f (items x) told node found (Some a) has is (go told plan)
+    where
+      go : (o : Option Content)
+          → IfSome o (λ c. (newest : Finish) → newest.1 ≡ a.1
+          → Becomes (items x) (mend_to before c f (Some newest)))
+          → IfSome o (λ c. Becomes (items x) (mend_to before c f (Some a)))
+      go None plan = tt
+      go (Some c) plan = plan a refl
+
+  -- the plan after the backups were found
+  pub found_planned : {X E : Type 0} (items : X → List Planned) (told later : Option Content)
+      (node : List ℕ) (found : BTreeMap (List ℕ) Marks) (r : Result X E) → later ≡ told
+      → IfSome told (λ c. AreFound node found before f c [])
+      → IfOk r (λ x. IfSome later (λ c. AreFound node found before f c []
+      → Becomes (items x) (changes_of_mend before c f [])))
+      → IfOk r (λ x. IfSome told (λ c. Becomes (items x) (changes_of_mend before c f [])))
+  found_planned items told later node found (Err e) same there plan = tt
+  found_planned items told later node found (Ok x) same there plan =
+      then_planned (λ c. AreFound node found before f c [])
+      (λ c. Becomes (items x) (changes_of_mend before c f [])) told later same there plan

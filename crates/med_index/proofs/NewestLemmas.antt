@@ -58,7 +58,7 @@ same_number a b e = exact_unsigned a b e
 
 -- neither is later than the other, so they are the same
 both_same : (a b : Finish) → is_later a b ≡ false → is_later b a ≡ false → a ≡ b
-both_same a b no none = go (finish_cmp a b) refl no
+both_same a b isnt none = go (finish_cmp a b) refl isnt
   where
     go : (o : Ordering) → finish_cmp a b ≡ o → is_gt o ≡ false → a ≡ b
     go Less e is =
@@ -121,12 +121,12 @@ module _ (es : List (List ℕ × Marks)) (n : List ℕ) (m : Marks) where
   newest_still : (b : Finish) (second : ℕ) → m.manifest ≡ Some second
       → is_later (second, n) b ≡ false → IsNewestOf es (Some b)
       → IsNewestOf (es ++ (n, m) ∷ []) (Some b)
-  newest_still b second is no old = record {
+  newest_still b second is isnt old = record {
     among = among_more es (Some b) (n, m) old.among;
     last = all_push (IsNoLater (Some b)) es (n, m) old.last
         (λ other same.
         let e = same_Some other second (sym same ∙ is) in
-        subst (λ s. is_later (s, n) b ≡ false) (sym e) no);
+        subst (λ s. is_later (s, n) b ≡ false) (sym e) isnt);
   }
 
   newest_next : (newest : Option Finish) (second : ℕ) → m.manifest ≡ Some second
@@ -144,8 +144,8 @@ module _ (es : List (List ℕ × Marks)) (n : List ℕ) (m : Marks) where
       go false later =
           newest_here second is
           (all_with (IsNoLater (Some b)) (IsNoLater (Some (second, n)))
-          (λ e no s finished.
-          upto finish_total (s, e.0) b (second, n) (no s finished) later) es old.last)
+          (λ e isnt s finished.
+          upto finish_total (s, e.0) b (second, n) (isnt s finished) later) es old.last)
 
   -- with one more that was found
   pub newest_more : (newest : Option Finish) → IsNewestOf es newest
@@ -206,16 +206,17 @@ best_is : (P : Finish → Type 0) (xs : List Finish) → AllByRecursion P xs →
     → latest_of xs ≡ Some y → P y
 best_is P [] all y is = absurd (cc)
 best_is P (x ∷ xs) all y is =
-    go (latest_of xs) refl (same_Some (later_of x (latest_of xs)) y is)
+    go (λ z e. best_is P xs all.1 z e) (latest_of xs) refl
+    (same_Some (later_of x (latest_of xs)) y is)
   where
     by : (t : Bool) (z : Finish) → P z → P (cond t z x)
     by true z p = p
     by false z p = all.0
 
-    go : (o : Option Finish) → latest_of xs ≡ o → later_of x o ≡ y → P y
-    go None e same = subst P same all.0
-    go (Some z) e same =
-        subst P same (by (is_later z x) z (best_is P xs all.1 z e))
+    go : ((z : Finish) → latest_of xs ≡ Some z → P z) → (o : Option Finish) → latest_of xs ≡ o
+        → later_of x o ≡ y → P y
+    go more None e same = subst P same all.0
+    go more (Some z) e same = subst P same (by (is_later z x) z (more z e))
 
 -- what is of the list, and later than which none is, is the last
 pub last_is : (xs : List Finish) (b : Finish) → Contains xs b
@@ -234,10 +235,10 @@ last_is (x ∷ xs) b has all = elim (contains_first x b xs has) [
 
     behind : (z : Finish) → x ≡ b → is_later z b ≡ false → (t : Bool) → is_later z x ≡ t
         → cond t z x ≡ b
-    behind z same no true e =
+    behind z same isnt true e =
         absurd
-        (let is = ap (is_later z) same in cc (is, no, e))
-    behind z same no false e = same
+        (let is = ap (is_later z) same in cc (is, isnt, e))
+    behind z same isnt false e = same
 
     first : x ≡ b → (o : Option Finish) → latest_of xs ≡ o → Some (later_of x o) ≡ Some b
     first same None e = ap Some same

@@ -1,10 +1,10 @@
 -- Changes of the index that are to be made.
-use Rattle.std.proofs.Common.{◌≡◌, ◌≢◌, ◌∙◌, ℕ, Bool, true, false, cond, List, [], ◌∷◌, ◌++◌, map, Option, Some, None, option_map, is_some, bytes_eq, refl, sym, ap, subst}
+use Rattle.std.proofs.Common.{◌≡◌, ◌≢◌, ◌∙◌, ◌<◌, ◌+◌, ℕ, Bool, true, false, cond, List, [], ◌∷◌, ◌++◌, map, length, take, drop, get_or, Option, Some, None, option_map, is_some, bytes_eq, refl, sym, ap, subst}
 use Rattle.std.proofs.lemmas.Option.{same_Some}
 use Rattle.std.specs.FinMap.{get}
 use Rattle.std.specs.List.{AllByRecursion, AllZip}
 use Rattle.std.specs.Option.{option_to_list}
-use Rattle.med_base.proofs.Lists.{all_with}
+use Rattle.med_base.proofs.Lists.{all_with, split_at, take_next, zip_push}
 use Rattle.med_base.specs.Classify.{kind_of, is_data_kind}
 use Rattle.med_base.specs.Content.{Content, Object}
 use Rattle.med_base.specs.Effects.{Effect, Stores, Removes}
@@ -50,6 +50,27 @@ planned_apart (p ∷ ps) qs (z ∷ zs) a =
     let (xs, ys, is, first, later) = planned_apart ps qs zs a.1 in
     (z ∷ xs, ys, ap (λ l. z ∷ l) is, (a.0, first), later)
 
+-- ---- a plan that is made, as far as it came
+
+module _ (ps : List Planned) (i : ℕ) (p : Planned) (less : i < length ps)
+    (is : p ≡ get_or ps i p) (xs : List Effect) (planned : ArePlanned (take i ps) xs) (x : Effect)
+    (one : IsPlannedAs p x) where
+  -- with the next change
+  pub planned_next : ArePlanned (take (i + 1) ps) (xs ++ x ∷ [])
+  planned_next =
+      subst (λ l. ArePlanned l (xs ++ x ∷ [])) (sym (take_next ps i p less is))
+      (zip_push IsPlannedAs (take i ps) xs p x planned one)
+
+  -- with the next change, and all that are left
+  pub planned_whole : ArePlanned ps (xs ++ x ∷ map effect_of (drop (i + 1) ps))
+  planned_whole =
+      subst (λ l. ArePlanned l (xs ++ x ∷ map effect_of (drop (i + 1) ps)))
+      (sym (split_at ps i p less is))
+      (planned_append (take i ps) (p ∷ drop (i + 1) ps) xs (x ∷ map effect_of (drop (i + 1) ps))
+      planned (one, all_planned (drop (i + 1) ps)))
+
+-- ---- of which paths they are
+
 -- a change is of the path of which it was planned
 same_path : (p : Planned) (x : Effect) → IsPlannedAs p x → changed x ≡ planned_path p
 same_path (Put path bytes) (Stores at stored second) is = is.0
@@ -63,11 +84,10 @@ pub latest_made : (before f : List ℕ) (ps : List Planned) (xs : List Effect) �
 latest_made before f [] [] a all = tt
 latest_made before f [] (x ∷ xs) a all = absurd a
 latest_made before f (p ∷ ps) [] a all = absurd a
-latest_made before f (p ∷ ps) (x ∷ xs) a all =
-    (subst (λ path. IsLatestOf f (kind_of before path)) (sym (same_path p x a.0)) all.0,
-    latest_made before f ps xs a.1 all.1)
-
--- ---- of which paths they are
+latest_made before f (p ∷ ps) (x ∷ xs) a all = (
+  subst (λ path. IsLatestOf f (kind_of before path)) (sym (same_path p x a.0)) all.0,
+  latest_made before f ps xs a.1 all.1,
+)
 
 -- an object of the index isn't a data object
 pub index_no_data : (f : List ℕ) (k : Kind) → IsOfIndex f k → is_data_kind k ≡ false
@@ -97,7 +117,8 @@ latest_in_index before f ps all =
 
 -- ---- what is to be done so that an object has these bytes, or doesn't stand
 
-bytes_of : Option Object → Option (List ℕ)
+-- the bytes of the object, if it stands
+abbrev bytes_of : Option Object → Option (List ℕ)
 bytes_of o = option_map (λ (x : Object). x.bytes) o
 
 -- an object that has other bytes

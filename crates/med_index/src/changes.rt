@@ -75,7 +75,10 @@ pub(crate) fn apply_all<S: Storage>(
     ensures cause { HasStoreCause (S.state store.old).faults (S.state store.new).faults result }
 {
     for planned in plan {
-        apply(alloc, store, layout, node, planned, trace)?;
+        match apply(alloc, store, layout, node, planned, trace) {
+            Ok(()) => {}
+            Err(error) => return Err(error),
+        }
     }
     Ok(())
 }

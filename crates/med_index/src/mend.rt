@@ -28,7 +28,7 @@ use std::collections::BTreeMap;
 
 // Whether a second and a name are after others.
 fn is_later(a: (u64, &BackupName), b: (u64, &BackupName)) -> bool
-    ensures { result ≡ is_later (a.0, a.1.now) (b.0, b.1.now) }
+    ensures { result ≡ is_later (a.entry.0, a.entry.1.now) (b.entry.0, b.entry.1.now) }
 {
     let seconds = a.0.cmp(&b.0);
     seconds.then(a.1.cmp(b.1)).is_gt()
@@ -41,7 +41,7 @@ fn with_found<'a>(
     marks: Marks,
 ) -> Option<(u64, &'a BackupName)>
     ensures { option_map (λ b. (b.0, b.1.now)) result
-        ≡ with_found (option_map (λ b. (b.0, b.1.now)) newest) name.now marks.manifest }
+        ≡ with_found (option_map (λ b. (b.0, b.1.now)) newest.entry) name.now marks.manifest }
 {
     let Some(second) = marks.manifest else {
         return newest;
@@ -78,7 +78,7 @@ fn change_to(
 ) -> Result<Option<Planned>, NoMemory>
     ensures { IfOk result
         (IsChangeTo path (option_map (λ bytes. bytes.items) found)
-        (option_map (λ bytes. bytes.now) wanted)) }
+        (option_map (λ bytes. bytes.now) wanted.entry)) }
 {
     match (found, wanted) {
         (None, None) => Ok(None),
@@ -134,7 +134,7 @@ fn plan_object<S: Storage>(
     ensures plan { IfOk result
         (λ change. IfSome (S.state store.old).content
         (λ c. IsPlanOf c (latest_path layout.now node.now kind)
-        (option_map (λ bytes. bytes.now) wanted) change)) }
+        (option_map (λ bytes. bytes.now) wanted.entry) change)) }
     ensures latest { IfOk result
         (λ change. IfSome change (IsOfLatestPlan layout.now node.now)) }
     ensures ready { IsReady layout.now (S.state store.new) }
@@ -188,8 +188,8 @@ fn plan_latest<S: Storage>(
         (λ plan. IfSome (S.state store.old).content
         (λ c. (xs : List Effect) → ArePlanned plan.items xs
         → (seconds : ℕ → ℕ)
-        × (xs ≡ latest_to layout.now c node.now (option_map (λ bytes. bytes.now) name)
-        (option_map (λ bytes. bytes.now) ring) seconds))) }
+        × (xs ≡ latest_to layout.now c node.now (option_map (λ bytes. bytes.now) name.entry)
+        (option_map (λ bytes. bytes.now) ring.entry) seconds))) }
     ensures latest { IfOk result
         (λ plan. AllByRecursion (IsOfLatestPlan layout.now node.now) plan.items) }
     ensures looks { OnlyReads (S.state store.old) (S.state store.new) (S.stood store.old)
@@ -231,6 +231,16 @@ fn tokenmap_of<S: Storage>(
     read(alloc, store, layout, &path)
 }
 
+// The bytes, lent.
+fn lent(bytes: &Option<Vec<u8>>) -> Option<&[u8]>
+    ensures { option_map (λ lent. lent.now) result ≡ option_map (λ bytes. bytes.items) bytes.now }
+{
+    match bytes {
+        Some(bytes) => Some(bytes.as_slice()),
+        None => None,
+    }
+}
+
 // What is to be done so that the latest entry of the node tells of this backup.
 fn plan_newest<S: Storage>(
     alloc: Global,
@@ -256,11 +266,7 @@ fn plan_newest<S: Storage>(
 {
     let ring = tokenmap_of(alloc, store, layout, node, name)?;
     let name = Some(name.as_str().as_bytes());
-    let ring = match &ring {
-        Some(ring) => Some(ring.as_slice()),
-        None => None,
-    };
-    plan_latest(alloc, store, layout, node, name, ring)
+    plan_latest(alloc, store, layout, node, name, lent(&ring))
 }
 
 /// What is to be done so that the latest entry of the node tells of the newest finished backup that
