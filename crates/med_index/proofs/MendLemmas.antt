@@ -1,9 +1,9 @@
 -- A mend: the newest backup that was found is that of the content, and what is planned is made.
-use Rattle.std.proofs.Common.{◌≡◌, ◌≢◌, ◌∙◌, inl, inr, ℕ, Bool, true, false, cond, not, ◌&&◌, List, [], ◌∷◌, ◌++◌, map, length, Option, Some, None, option_map, IfSome, Result, Ok, Err, IfOk, OnOk, Contains, bytes_eq, refl, sym, ap, ap₂, subst, get_or}
+use Rattle.std.proofs.Common.{◌≡◌, ◌∙◌, inl, inr, ℕ, Bool, true, false, cond, ◌&&◌, List, [], ◌∷◌, ◌++◌, map, Option, Some, None, option_map, IfSome, Result, Ok, Err, IfOk, OnOk, Contains, bytes_eq, refl, sym, ap, ap₂, subst, get_or}
 use Rattle.std.proofs.lemmas.Option.{same_Some}
 use Rattle.std.specs.BTreeMap.{BTreeMap, get as lookup}
 use Rattle.std.specs.FinMap as fin
-use Rattle.std.specs.List.{AllByRecursion, list_any}
+use Rattle.std.specs.List.{AllByRecursion}
 use Rattle.std.specs.Option.{option_to_list}
 use Rattle.med_base.proofs.Lists.{all_append, contains_map}
 use Rattle.med_base.specs.declared.kinds.LatestKind.{LatestKind}
@@ -19,9 +19,8 @@ use Rattle.med_manifest.proofs.ByKind.{HasPath, folder, manifest_path, path_has,
 use Rattle.med_manifest.proofs.Gets.{from_same, same_itself}
 use Rattle.med_manifest.proofs.Members.{IsListed, all_listed, all_so, is_listed}
 use Rattle.med_manifest.proofs.Newest.{and_first}
-use Rattle.med_manifest.specs.Listed.{paths_of, remove_if_stands}
-use Rattle.med_manifest.specs.Mend.{changes_of_mend, finished_at, has_bytes, is_later, is_manifest_outside, latest_of, mend_to, mend_tokenmap, name_in, newest, put_unless, second_or_zero}
-use Rattle.med_manifest.specs.Vault.{second_of}
+use Rattle.med_manifest.specs.Listed.{paths_of}
+use Rattle.med_manifest.specs.Mend.{changes_of_mend, finished_at, has_bytes, is_later, is_manifest_outside, mend_to, mend_tokenmap, name_in, newest, put_unless, second_or_zero}
 use Rattle.med_index.specs.declared.changes.Planned.{Planned}
 use Rattle.med_index.specs.declared.marks.Marks.{Marks}
 use Rattle.med_index.specs.Planned.{ArePlanned, IsNewestFound, IsOfLatestPlan, IsPlanOf, latest_to, object_to}
@@ -70,9 +69,6 @@ module _ (before : List ℕ) (c : Content) (node f : List ℕ) (found : BTreeMap
   all_finishes [] all = tt
   all_finishes (p ∷ ps) all =
       (finish_at p (kind_of before p) refl all.0.0 all.0.1.0 all.0.1.1, all_finishes ps all.1)
-
-  finishes : List Finish
-  finishes = map (finished_at before c) (paths_of before c (is_manifest_outside f []))
 
   finishes_found : AllByRecursion IsFinishFound
       (map (finished_at before c) (paths_of before c (is_manifest_outside f [])))
@@ -160,7 +156,8 @@ module _ (before : List ℕ) (c : Content) (f : List ℕ) where
         → AreOfLatest before f (object_to c (latest_path before f kind) wanted second)
     object_reach kind None second = by (fin.contains_key c (latest_path before f kind))
       where
-        by : (t : Bool) → AreOfLatest before f (cond t (Removes (latest_path before f kind) ∷ []) [])
+        by : (t : Bool) → AreOfLatest before f
+            (cond t (Removes (latest_path before f kind) ∷ []) [])
         by true = (latest_kind kind, tt)
         by false = tt
     object_reach kind (Some bytes) second =

@@ -1,5 +1,5 @@
 -- The newest finished backup of those that were found.
-use Rattle.std.proofs.Common.{◌≡◌, ◌≢◌, ◌∙◌, inl, inr, ℕ, Bool, true, false, cond, not, ◌&&◌, List, [], ◌∷◌, ◌++◌, map, Option, Some, None, option_map, IfSome, Contains, bytes_eq, refl, sym, ap, subst, get_or}
+use Rattle.std.proofs.Common.{◌≡◌, ◌∙◌, inl, inr, ℕ, Bool, true, false, cond, List, [], ◌∷◌, ◌++◌, Option, Some, None, Contains, refl, sym, ap, subst}
 use Rattle.std.proofs.lemmas.Cmp.{on_total, then_total, tied_itself, upto}
 use Rattle.std.proofs.lemmas.List.Elements.{All-contains, All-from_recursion, Contains-append_left, Contains-push}
 use Rattle.std.proofs.lemmas.Map.Lookups.{exact_bytes, exact_unsigned}
@@ -8,8 +8,7 @@ use Rattle.std.proofs.lemmas.Option.{same_Some}
 use Rattle.std.specs.BTreeMap.{BTreeMap, IsOrdered, get as lookup}
 use Rattle.std.specs.Cmp.{IsTotalOrder, nat_cmp_total}
 use Rattle.std.specs.Cmp.Lexicographic.{nat_list_cmp_total}
-use Rattle.std.specs.FinMap.{get}
-use Rattle.std.specs.List.{AllByRecursion, list_any}
+use Rattle.std.specs.List.{AllByRecursion}
 use Rattle.std.specs.Ordering.{is_gt, nat_cmp, on, ordering_reverse, ordering_then, then_cmp}
 use Rattle.std.specs.declared.cmp.Ordering.{Ordering}
 use Rattle.std.specs.declared.cmp.Ordering.TheVariants.{Less, Equal, Greater}
@@ -19,7 +18,6 @@ use Rattle.med_base.specs.NameOrder.{name_cmp}
 use Rattle.med_manifest.proofs.Members.{contains_first, contains_nothing}
 use Rattle.med_manifest.specs.Mend.{is_later, later_of, latest_of}
 use Rattle.med_index.specs.declared.marks.Marks.{Marks}
-use Rattle.med_index.specs.Marks.{or_none}
 use Rattle.med_index.specs.Planned.{IsNewestFound, with_found}
 use Rattle.med_index.specs.Visits.{found_second}
 
@@ -89,9 +87,6 @@ IsAmong es (Some b) = (m : Marks) × Contains es (b.1, m) × (m.manifest ≡ Som
 pub record IsNewestOf (es : List (List ℕ × Marks)) (newest : Option Finish) : Type 0 where
   pub among : IsAmong es newest
   pub last : AllByRecursion (IsNoLater newest) es
-
-pub newest_of_none : IsNewestOf [] None
-newest_of_none = record { among = tt; last = tt }
 
 among_more : (es : List (List ℕ × Marks)) (newest : Option Finish) (e : List ℕ × Marks)
     → IsAmong es newest → IsAmong (es ++ e ∷ []) newest

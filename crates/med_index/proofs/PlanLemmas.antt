@@ -2,16 +2,16 @@
 use Rattle.std.proofs.Common.{◌≡◌, ◌≢◌, ◌∙◌, ◌<◌, ◌+◌, ℕ, Bool, true, false, cond, List, [], ◌∷◌, ◌++◌, map, length, take, drop, get_or, Option, Some, None, option_map, is_some, bytes_eq, refl, sym, ap, subst}
 use Rattle.std.proofs.lemmas.Option.{same_Some}
 use Rattle.std.specs.FinMap.{get}
-use Rattle.std.specs.List.{AllByRecursion, AllZip}
+use Rattle.std.specs.List.{AllByRecursion}
 use Rattle.std.specs.Option.{option_to_list}
 use Rattle.med_base.proofs.Lists.{all_with, split_at, take_next, zip_push}
-use Rattle.med_base.specs.Classify.{kind_of, is_data_kind}
+use Rattle.med_base.specs.Classify.{kind_of}
 use Rattle.med_base.specs.Content.{Content, Object}
 use Rattle.med_base.specs.Effects.{Effect, Stores, Removes}
 use Rattle.med_base.specs.Kinds.{Kind, Shared, Own, Meta, Entry, Latest, Stray, Other}
 use Rattle.med_manifest.proofs.Gets.{from_same, same_itself}
 use Rattle.med_manifest.specs.Mend.{has_bytes}
-use Rattle.med_index.specs.Planned.{ArePlanned, IsChangeTo, IsOfIndexPlan, IsOfLatestPlan, IsPlanOf, IsPlannedAs, object_to, planned_path}
+use Rattle.med_index.specs.Planned.{ArePlanned, IsOfIndexPlan, IsOfLatestPlan, IsPlanOf, IsPlannedAs, object_to, planned_path}
 use Rattle.med_index.specs.Rebuilt.{AreOfLatest, IsLatestOf, IsOfIndex, changed}
 use Rattle.med_index.specs.declared.changes.Planned.{Planned}
 use Rattle.med_index.specs.declared.changes.Planned.TheVariants.{Put, Delete}
@@ -88,16 +88,6 @@ latest_made before f (p ∷ ps) (x ∷ xs) a all = (
   subst (λ path. IsLatestOf f (kind_of before path)) (sym (same_path p x a.0)) all.0,
   latest_made before f ps xs a.1 all.1,
 )
-
--- an object of the index isn't a data object
-pub index_no_data : (f : List ℕ) (k : Kind) → IsOfIndex f k → is_data_kind k ≡ false
-index_no_data f (Shared g key) is = absurd is
-index_no_data f (Own g n key) is = absurd is
-index_no_data f (Meta g n kind) is = absurd is
-index_no_data f (Entry g n kind) is = refl
-index_no_data f (Latest g kind) is = refl
-index_no_data f (Stray g n) is = absurd is
-index_no_data f Other is = absurd is
 
 latest_of_index : (f : List ℕ) (k : Kind) → IsLatestOf f k → IsOfIndex f k
 latest_of_index f (Shared g key) is = absurd is

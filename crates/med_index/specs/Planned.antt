@@ -45,24 +45,25 @@ IsOfIndexPlan before f planned = IsOfIndex f (kind_of before (planned_path plann
 abbrev pub IsOfLatestPlan : List ℕ → List ℕ → Planned → Type 0
 IsOfLatestPlan before f planned = IsLatestOf f (kind_of before (planned_path planned))
 
--- the change that makes an object these bytes, or none, where its bytes are told or none stands
+-- the change after which an object that was found so is as wanted: it has these bytes, or none
+-- stands; there is none where it is so
 abbrev pub IsChangeTo : List ℕ → Option (List ℕ) → Option (List ℕ) → Option Planned → Type 0
 IsChangeTo path found wanted None = found ≡ wanted
 IsChangeTo path found wanted (Some (Put at bytes)) =
     (at ≡ path) × (wanted ≡ Some bytes.items) × (found ≢ wanted)
 IsChangeTo path found wanted (Some (Delete at)) = (at ≡ path) × (wanted ≡ None) × (found ≢ wanted)
 
--- the change that makes the object under the path these bytes, or none
+-- the same of the object that a content has under the path
 abbrev pub IsPlanOf : Content → List ℕ → Option (List ℕ) → Option Planned → Type 0
 IsPlanOf c path wanted change =
     IsChangeTo path (option_map (λ (o : Object). o.bytes) (get c path)) wanted change
 
--- the object under the path becomes one of these bytes, or none stands
+-- the changes after which the object under the path has these bytes, or none stands
 abbrev pub object_to : Content → List ℕ → Option (List ℕ) → ℕ → List Effect
 object_to c path None second = remove_if_stands c path
 object_to c path (Some bytes) second = put_unless c path bytes second
 
--- the latest objects of the node become these: the name, and the token map
+-- the same of the latest objects of the node: the name, and the token map
 abbrev pub latest_to : List ℕ → Content → List ℕ → Option (List ℕ) → Option (List ℕ) → (ℕ → ℕ)
     → List Effect
 latest_to before c f name ring seconds =

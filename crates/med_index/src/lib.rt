@@ -12,6 +12,7 @@ mod errors;
 mod marks;
 mod mend;
 mod meta;
+mod newest;
 mod nodes;
 mod put;
 mod rebuild;

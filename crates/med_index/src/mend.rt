@@ -7,13 +7,13 @@ ghost use Rattle.med_base.specs.Classify.{is_data, kind_of};
 ghost use Rattle.med_base.specs.Effects.{Effect};
 ghost use Rattle.med_base.specs.Kinds.{Meta};
 ghost use Rattle.med_base.specs.Layout.{latest_path, meta_path};
-ghost use Rattle.med_manifest.specs.Mend.{changes_of_mend, is_later, mend_to};
+ghost use Rattle.med_manifest.specs.Mend.{changes_of_mend, mend_to};
 ghost use Rattle.med_outside.specs.Makes.{Makes, IsError};
 ghost use Rattle.med_outside.specs.State.{IsReady, OnlyReads};
 ghost use Rattle.med_outside.specs.Storage.{AnswersBytes};
 ghost use Rattle.med_index.specs.declared.errors.ListError.TheVariants.{Store};
 ghost use Rattle.med_index.specs.Errors.{HasStoreCause};
-ghost use Rattle.med_index.specs.Planned.{ArePlanned, IsChangeTo, IsNewestFound, IsOfLatestPlan, IsPlanOf, latest_to, with_found};
+ghost use Rattle.med_index.specs.Planned.{ArePlanned, IsChangeTo, IsOfLatestPlan, IsPlanOf, latest_to};
 ghost use Rattle.med_index.specs.Rebuilt.{IsMend};
 ghost use Rattle.med_index.specs.Visits.{AreFound};
 
@@ -21,53 +21,11 @@ use crate::ListError;
 use crate::backups::find_backups;
 use crate::changes::{Planned, apply_all};
 use crate::marks::Marks;
+use crate::newest::newest_found;
 use med_base::{BackupName, Fqdn, LatestKind, Layout, MetaKind, NoMemory, ObjPath};
 use med_outside::{Denied, Storage, Trace};
 use std::alloc::Global;
 use std::collections::BTreeMap;
-
-// Whether a second and a name are after others.
-fn is_later(a: (u64, &BackupName), b: (u64, &BackupName)) -> bool
-    ensures { result ≡ is_later (a.entry.0, a.entry.1.now) (b.entry.0, b.entry.1.now) }
-{
-    let seconds = a.0.cmp(&b.0);
-    seconds.then(a.1.cmp(b.1)).is_gt()
-}
-
-// The newest of those before and of this backup, if it is finished.
-fn with_found<'a>(
-    newest: Option<(u64, &'a BackupName)>,
-    name: &'a BackupName,
-    marks: Marks,
-) -> Option<(u64, &'a BackupName)>
-    ensures { option_map (λ b. (b.0, b.1.now)) result
-        ≡ with_found (option_map (λ b. (b.0, b.1.now)) newest.entry) name.now marks.manifest }
-{
-    let Some(second) = marks.manifest else {
-        return newest;
-    };
-    match newest {
-        None => Some((second, name)),
-        Some(other) => {
-            if is_later(other, (second, name)) {
-                Some(other)
-            } else {
-                Some((second, name))
-            }
-        }
-    }
-}
-
-// The newest finished backup of those that were found, with the second of its manifest.
-fn newest_found(found: &BTreeMap<BackupName, Marks>) -> Option<(u64, &BackupName)>
-    ensures { IsNewestFound found.now (option_map (λ b. (b.0, b.1.now)) result) }
-{
-    let mut newest = None;
-    for (name, marks) in found {
-        newest = with_found(newest, name, *marks);
-    }
-    newest
-}
 
 // What is to be done so that an object has these bytes, or doesn't stand.
 fn change_to(
@@ -318,10 +276,10 @@ fn find_mend<S: Storage>(
     plan_mend(alloc, store, layout, node, &found)
 }
 
-/// Makes the latest entry of the node tell of its newest finished backup: the one whose manifest has
-/// the greatest second, and of those the last in the order of their names. Where there is none the
-/// node has no latest entry. After a refusal the first of the changes were made; after `Store` the
-/// next one too, or not, and then the trace is unsure.
+/// Makes the latest entry of the node tell of its newest finished backup: the one whose manifest
+/// has the greatest second, and of those the last in the order of their names. Where there is none
+/// the node has no latest entry. After a refusal the first of the changes were made; where one of
+/// them answered `Store` that one was made too, or not, and the trace is unsure.
 pub fn mend_latest<S: Storage>(
     alloc: Global,
     store: &mut S,

@@ -145,7 +145,15 @@ fn ends<S: Storage>(alloc: Global, store: &mut S, laid: &str, wanted: &str) -> O
         "object index/latest_backup/n1/backup_name.txt",
         name,
     )?;
-    Some(is_name && is_answered(alloc, store, "object index/latest_backup/n1/tokenmap.json", ring)?)
+    Some(
+        is_name
+            && is_answered(
+                alloc,
+                store,
+                "object index/latest_backup/n1/tokenmap.json",
+                ring,
+            )?,
+    )
 }
 
 // A row `LAID STEP EFFECT => ANSWER, NAME TOKENMAP`: the call of that number fails, and takes effect

@@ -1,5 +1,5 @@
-use Rattle.std.proofs.Common.{◌≡◌, refl, sym, subst}
-use Rattle.med_base.specs.Effects.{Effect, Stores, Removes}
+use Rattle.std.proofs.Common.{refl, sym, subst}
+use Rattle.med_base.specs.Effects.{Stores, Removes}
 use Rattle.med_outside.proofs.Making.{told_as}
 use Rattle.med_index.specs.Planned.{IsPlannedAs}
 use Rattle.med_index.proofs.changes.apply.Goals as goal

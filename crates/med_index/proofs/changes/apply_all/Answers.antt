@@ -1,4 +1,4 @@
-use Rattle.std.proofs.Common.{rules, ◌+◌, ◌++◌, [], ◌∷◌, map, drop, refl, arith}
+use Rattle.std.proofs.Common.{◌+◌, ◌++◌, [], ◌∷◌, map, drop, refl, arith}
 use Rattle.med_outside.proofs.Making.{cut_short, in_turn, nothing_yet, told_as}
 use Rattle.med_outside.proofs.Passing.{moves_at_rest}
 use Rattle.med_index.proofs.PlanLemmas.{effect_of, planned_next, planned_whole}

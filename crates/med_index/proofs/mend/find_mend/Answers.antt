@@ -1,4 +1,3 @@
-use Rattle.med_outside.proofs.Passing.{ready_on}
 use Rattle.med_index.proofs.MendLemmas.{found_planned}
 use Rattle.med_index.proofs.Walking.{same_content}
 use Rattle.med_index.proofs.mend.find_mend.Goals as goal

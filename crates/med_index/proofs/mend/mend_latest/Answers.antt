@@ -1,7 +1,6 @@
 use Rattle.std.proofs.Common.{[], refl, sym, subst}
 use Rattle.std.specs.List.{AllByRecursion}
 use Rattle.med_outside.proofs.Making.{in_turn, nothing_yet}
-use Rattle.med_outside.proofs.Passing.{ready_on}
 use Rattle.med_index.specs.Planned.{ArePlanned, IsOfIndexPlan}
 use Rattle.med_index.proofs.MendLemmas.{mend_made, some_mend}
 use Rattle.med_index.proofs.PlanLemmas.{latest_in_index}

@@ -2,9 +2,8 @@ use Rattle.std.proofs.Common.{◌++◌, ℕ, List, [], ◌∷◌, Bor, map, opti
 use Rattle.std.proofs.lemmas.List.{map-append}
 use Rattle.std.proofs.lemmas.Map.Iter.{iter_end}
 use Rattle.std.specs.Map.Iter.{deref_pair}
-use Rattle.med_index.specs.declared.marks.Marks.{Marks}
 use Rattle.med_index.proofs.NewestLemmas.{Finish, IsNewestOf, newest_found_is, newest_more}
-use Rattle.med_index.proofs.mend.newest_found.Goals as goal
+use Rattle.med_index.proofs.newest.newest_found.Goals as goal
 
 -- a second and a name, as they are lent
 abbrev shown : ℕ × Bor (List ℕ) → Finish

@@ -1,7 +1,7 @@
 use Rattle.std.proofs.Common.{map, option_map}
 use Rattle.std.specs.Map.Iter.{deref_pair}
 use Rattle.med_index.proofs.NewestLemmas.{IsNewestOf}
-use Rattle.med_index.proofs.mend.newest_found.Given as goal
+use Rattle.med_index.proofs.newest.newest_found.Given as goal
 
 -- it is the newest so far
 abbrev pub invariant-loop-name : goal.invariant-loop-name
