@@ -129,6 +129,10 @@ put n1/b1/meta/schema.cql=s => 1000
 put index/latest_backup/n1/backup_name.txt=b0 => 1000
 put index/latest_backup/n1/tokenmap.json={0} => 1000";
 
+const NAME: &str = "object index/latest_backup/n1/backup_name.txt";
+
+const RING: &str = "object index/latest_backup/n1/tokenmap.json";
+
 // Whether a mend of what is laid answers so, and leaves this name and this token map.
 fn ends<S: Storage>(alloc: Global, store: &mut S, laid: &str, wanted: &str) -> Option<bool>
     requires { IsReady [] (S.state store.old) }
@@ -139,21 +143,7 @@ fn ends<S: Storage>(alloc: Global, store: &mut S, laid: &str, wanted: &str) -> O
     if first_wrong(alloc, store, laid).is_some() || mended(alloc, store, "n1")?.as_str() != said {
         return Some(false);
     }
-    let is_name = is_answered(
-        alloc,
-        store,
-        "object index/latest_backup/n1/backup_name.txt",
-        name,
-    )?;
-    Some(
-        is_name
-            && is_answered(
-                alloc,
-                store,
-                "object index/latest_backup/n1/tokenmap.json",
-                ring,
-            )?,
-    )
+    Some(is_answered(alloc, store, NAME, name)? && is_answered(alloc, store, RING, ring)?)
 }
 
 // A row `LAID STEP EFFECT => ANSWER, NAME TOKENMAP`: the call of that number fails, and takes effect
