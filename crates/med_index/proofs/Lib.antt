@@ -1,3 +1,4 @@
+pub mod EntryListing
 pub mod Finding
 pub mod Listings
 pub mod MendLemmas

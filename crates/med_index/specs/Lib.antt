@@ -1,4 +1,5 @@
 pub mod Errors
+pub mod Listed
 pub mod Marks
 pub mod Modes
 pub mod Planned

@@ -66,6 +66,8 @@ impl Visitor for Backups<'_> {
 
     ghost found = { λ b before f c rest. AreFound b.node.now b.found before f c rest };
 
+    ghost held = { λ b before f n. Unit {0} };
+
     fn visit(&mut self, alloc: Global, layout: &Layout, entry: &Entry) -> Result<(), NoMemory> {
         let node = self.node.as_str();
         let Some((owner, backup, kind)) = meta_at(layout, &entry.path) else {

@@ -41,6 +41,8 @@ impl Visitor for Nodes {
 
     ghost found = { λ n before f c rest. AreNodesFound n.found before c rest };
 
+    ghost held = { λ n before f name. Unit {0} };
+
     fn visit(&mut self, alloc: Global, layout: &Layout, entry: &Entry) -> Result<(), NoMemory> {
         match meta_at(layout, &entry.path) {
             Some((owner, _, _)) => note(alloc, &mut self.found, owner),

@@ -19,11 +19,17 @@ pub(crate) trait Visitor: Sized {
     /// each path, and for a node.
     ghost found: { Self → List ℕ → List ℕ → Content → List Entry → Type 0 };
 
+    /// What holds of it over every storage, told or not, under a text before each path, for a node
+    /// and the name of a backup.
+    ghost held: { Self → List ℕ → List ℕ → List ℕ → Type 0 };
+
     fn visit(&mut self, alloc: Global, layout: &Layout, entry: &Entry) -> Result<(), NoMemory>
-        ensures { OnOk result
+        ensures found { OnOk result
             ((f : List ℕ) (c : Content) (rest : List Entry)
             → found self.old layout.now f c (entry.now ∷ rest)
-            → found self.new layout.now f c rest) };
+            → found self.new layout.now f c rest) }
+        ensures held { OnOk result
+            ((f n : List ℕ) → held self.old layout.now f n → held self.new layout.now f n) };
 }
 
 // Visits the entries of a page.
@@ -33,10 +39,12 @@ fn visit_all<V: Visitor>(
     entries: &[Entry],
     visitor: &mut V,
 ) -> Result<(), NoMemory>
-    ensures { OnOk result
+    ensures found { OnOk result
         ((f : List ℕ) (c : Content) (rest : List Entry)
         → V.found visitor.old layout.now f c (entries.now ++ rest)
         → V.found visitor.new layout.now f c rest) }
+    ensures held { OnOk result
+        ((f n : List ℕ) → V.held visitor.old layout.now f n → V.held visitor.new layout.now f n) }
 {
     for entry in entries {
         visitor.visit(alloc, layout, entry)?;
@@ -59,6 +67,8 @@ fn visit_page<S: Storage, V: Visitor>(
         (λ c. (f : List ℕ)
         → V.found visitor.old layout.now f c (behind under.now (shown after.entry) c)
         → V.found visitor.new layout.now f c (left_behind under.now end c))) }
+    ensures held { OnOk result
+        ((f n : List ℕ) → V.held visitor.old layout.now f n → V.held visitor.new layout.now f n) }
     ensures counts { IfOk result (λ end. CountsRight under.now end (S.state store.old).content) }
     ensures falls { IfOk result
         (λ end. IfSome (shown after.entry) (λ a. 0 < a.left → left_of end < a.left)) }
@@ -90,6 +100,8 @@ pub(crate) fn walk<S: Storage, V: Visitor>(
         (IfSome (S.state store.old).content
         (λ c. (f : List ℕ) → V.found visitor.old layout.now f c (listing under.now c)
         → V.found visitor.new layout.now f c [])) }
+    ensures held { OnOk result
+        ((f n : List ℕ) → V.held visitor.old layout.now f n → V.held visitor.new layout.now f n) }
     ensures looks { OnlyReads (S.state store.old) (S.state store.new) (S.stood store.old)
         (S.stood store.new) }
     ensures cause { HasStoreCause (S.state store.old).faults (S.state store.new).faults result }

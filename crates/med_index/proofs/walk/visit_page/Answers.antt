@@ -15,7 +15,7 @@ returns-in-Ok-visit_all-clause-found g c =
     (λ (es : List Entry). (f : List ℕ) (d : Content) (rest : List Entry)
     → g.V.Visitor.found c.args.visitor.now c.args.layout.now f d (es ++ rest)
     → g.V.Visitor.found c.visit_all.new.visitor c.args.layout.now f d rest)
-    c.as_slice.ensures.value c.in-Ok-visit_all.ensures)
+    c.as_slice.ensures.value c.in-Ok-visit_all.ensures.found)
 
 pub returns-in-Ok-visit_all-clause-counts : goal.returns-in-Ok-visit_all-clause-counts
 returns-in-Ok-visit_all-clause-counts g c =

@@ -11,6 +11,7 @@ pages-init g c =
           (g.V.Visitor.found c.visit_page.new.visitor c.args.layout.now) c.args.under.now
           c.in_ok-after.after (g.S.Storage.state c.args.store.now).content
           c.in_ok-after.ensures.found;
+      held = c.in_ok-after.ensures.held;
       counts =
           subst (CountsRight c.args.under.now c.in_ok-after.after)
           (sym (same_content _ _ _ _ c.in_ok-after.ensures.looks)) c.in_ok-after.ensures.counts;

@@ -12,6 +12,8 @@ invariant-pages g l = record {
       (λ c. (f : List ℕ)
       → g.V.Visitor.found l.fn.visitor l.layout f c (listing l.under c)
       → g.V.Visitor.found l.visitor l.layout f c (left_behind l.under l.after c));
+  held : (f n : List ℕ) → g.V.Visitor.held l.fn.visitor l.layout f n
+      → g.V.Visitor.held l.visitor l.layout f n;
   counts : CountsRight l.under l.after (g.S.Storage.state l.store).content;
   some_left : IfSome l.after (λ e. 0 < e.left);
   looks : OnlyReads (g.S.Storage.state l.fn.store) (g.S.Storage.state l.store)

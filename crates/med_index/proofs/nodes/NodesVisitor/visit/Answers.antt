@@ -2,13 +2,13 @@ use Rattle.std.proofs.Common.{sym}
 use Rattle.med_index.proofs.Finding.{no_meta, node_noted, then_ok}
 use Rattle.med_index.proofs.nodes.NodesVisitor.visit.Goals as goal
 
-pub returns-in-None : goal.returns-in-None
-returns-in-None c = λ f d rest old.
+pub returns-in-None-clause-found : goal.returns-in-None-clause-found
+returns-in-None-clause-found c = λ f d rest old.
     no_meta c.args.self.now.found c.args.layout.now d c.args.entry.now rest
     (sym c.in-None.ensures.meta) old
 
-pub returns-in-Some : goal.returns-in-Some
-returns-in-Some c =
+pub returns-in-Some-clause-found : goal.returns-in-Some-clause-found
+returns-in-Some-clause-found c =
     then_ok c.note.result
     (λ updates f d rest old.
     node_noted c.args.self.now.found c.note.new.found c.args.layout.now d c.args.entry.now rest
