@@ -101,7 +101,7 @@ equal_of Equal e = refl
 equal_of Greater e = absurd (cc)
 
 -- what a map has after a key was put: the new value at that key, and the old ones at others
-put_cases : {X : Type 0} (m m' : BTreeMap (List ℕ) X) (key : List ℕ) (v : X)
+pub put_cases : {X : Type 0} (m m' : BTreeMap (List ℕ) X) (key : List ℕ) (v : X)
     → Updates name_cmp m m' key (Some v) → (q : List ℕ)
     → ((key ≡ q) × (get name_cmp m' q ≡ Some v)) ⊎ (get name_cmp m' q ≡ get name_cmp m q)
 put_cases {X} m m' key v updates q = go (is_at (name_cmp key) q) refl
@@ -305,7 +305,7 @@ stands_to_come text before f n c kind second under is =
     let o = some_object (finite.get c (meta_path before f n kind)) second is in
     to_come text (meta_path before f n kind) c o.0 o.1 under
 
-nothing_got : {X : Type 0} (m : BTreeMap (List ℕ) X) (q : List ℕ) → m.entries ≡ []
+pub nothing_got : {X : Type 0} (m : BTreeMap (List ℕ) X) (q : List ℕ) → m.entries ≡ []
     → get name_cmp m q ≡ None
 nothing_got m q none = ap (lookup (is_at (name_cmp q))) none
 

@@ -1,5 +1,6 @@
 pub mod EntryListing
 pub mod Finding
+pub mod GivenLemmas
 pub mod Listings
 pub mod MendLemmas
 pub mod NewestLemmas
@@ -8,5 +9,6 @@ pub mod PlanLemmas
 pub mod RowLemmas
 pub mod RowOrder
 pub mod Sets
+pub mod SizeLemmas
 pub mod Starts
 pub mod Walking

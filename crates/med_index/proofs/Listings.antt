@@ -68,7 +68,7 @@ above x y less = go (by x y) (by y x) (nat_list_cmp_total.antisymm y x) less
     go Greater p e h = absurd h
 
 -- each of these is found in the list
-abbrev AreIn : List Pair → List Pair → Type 0
+abbrev pub AreIn : List Pair → List Pair → Type 0
 AreIn all es = AllByRecursion (λ (e : Pair). find by e.0 all ≡ Some e.1) es
 
 behind_first : (h : Pair) (all es : List Pair) → T (below_all by h.0 es) → AreIn all es
@@ -88,7 +88,7 @@ itself x = go (by x x) (nat_list_cmp_total.antisymm x x)
     go Equal e = refl
     go Greater e = absurd (cc)
 
-all_in : (es : List Pair) → T (is_sorted by es) → AreIn es es
+pub all_in : (es : List Pair) → T (is_sorted by es) → AreIn es es
 all_in [] sorted = tt
 all_in (e ∷ es) sorted = (
   ap (λ b. cond b (Some e.1) (find by e.0 es)) (itself e.0),

@@ -1,4 +1,5 @@
 pub mod Errors
+pub mod Given
 pub mod Listed
 pub mod Marks
 pub mod Modes

@@ -9,6 +9,7 @@ mod backups;
 mod changes;
 mod entries;
 mod errors;
+mod given;
 mod listed;
 mod marks;
 mod mend;

@@ -55,8 +55,8 @@ fn change_to(
     }
 }
 
-// The bytes of an object that isn't a data object.
-fn read<S: Storage>(
+/// The bytes of an object that isn't a data object.
+pub(crate) fn read<S: Storage>(
     alloc: Global,
     store: &mut S,
     layout: &Layout,
@@ -162,8 +162,8 @@ fn plan_latest<S: Storage>(
     }
 }
 
-// The bytes of the token map of a backup.
-fn tokenmap_of<S: Storage>(
+/// The bytes of the token map of a backup.
+pub(crate) fn tokenmap_of<S: Storage>(
     alloc: Global,
     store: &mut S,
     layout: &Layout,
