@@ -2,6 +2,7 @@ pub mod EntryListing
 pub mod Finding
 pub mod GivenLemmas
 pub mod Listings
+pub mod ManifestLemmas
 pub mod MendLemmas
 pub mod NewestLemmas
 pub mod NodeLemmas

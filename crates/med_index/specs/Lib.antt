@@ -1,6 +1,7 @@
 pub mod Errors
 pub mod Given
 pub mod Listed
+pub mod Manifests
 pub mod Marks
 pub mod Modes
 pub mod Planned

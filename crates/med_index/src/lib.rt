@@ -11,6 +11,7 @@ mod entries;
 mod errors;
 mod given;
 mod listed;
+mod manifests;
 mod marks;
 mod mend;
 mod meta;
