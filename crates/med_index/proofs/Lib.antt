@@ -1,5 +1,7 @@
 pub mod EntryListing
 pub mod Finding
+pub mod GatherLemmas
+pub mod GatherSteps
 pub mod GivenLemmas
 pub mod Listings
 pub mod ManifestLemmas
@@ -7,6 +9,8 @@ pub mod MendLemmas
 pub mod NewestLemmas
 pub mod NodeLemmas
 pub mod PlanLemmas
+pub mod RebuildLemmas
+pub mod RebuildSteps
 pub mod RowLemmas
 pub mod RowOrder
 pub mod Sets

@@ -72,7 +72,7 @@ module _ (ps : List Planned) (i : ℕ) (p : Planned) (less : i < length ps)
 -- ---- of which paths they are
 
 -- a change is of the path of which it was planned
-same_path : (p : Planned) (x : Effect) → IsPlannedAs p x → changed x ≡ planned_path p
+pub same_path : (p : Planned) (x : Effect) → IsPlannedAs p x → changed x ≡ planned_path p
 same_path (Put path bytes) (Stores at stored second) is = is.0
 same_path (Put path bytes) (Removes at) is = absurd is
 same_path (Delete path) (Stores at stored second) is = absurd is

@@ -1,10 +1,12 @@
 pub mod Errors
+pub mod Gathered
 pub mod Given
 pub mod Listed
 pub mod Manifests
 pub mod Marks
 pub mod Modes
 pub mod Planned
+pub mod Plans
 pub mod Rebuilt
 pub mod Rows
 pub mod Visits

@@ -16,7 +16,7 @@ use Rattle.med_manifest.specs.Rebuild.{changes_of_rebuild}
 use Rattle.med_manifest.specs.Refusals.{IsRefused}
 use Rattle.med_index.specs.declared.errors.IndexError.{IndexError}
 use Rattle.med_index.specs.declared.errors.IndexError.TheVariants.{BadManifest, Store, Memory}
-use Rattle.med_index.specs.declared.rebuild.IndexReport.{IndexReport}
+use Rattle.med_index.specs.declared.report.IndexReport.{IndexReport}
 
 -- the path that a change is of
 abbrev pub changed : Effect → List ℕ

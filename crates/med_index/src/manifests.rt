@@ -122,7 +122,7 @@ pub(crate) fn read_manifests<S: Storage>(
         given.new) }
     ensures err { IfErr result
         (IsStopped (S.state store.old).content layout.now node.now manifests.entries) }
-    ensures order { OnOk result (IsOrdered name_cmp manifests) }
+    ensures order { IsOrdered name_cmp manifests }
     ensures ready { IsReady layout.now (S.state store.new) }
     ensures looks { OnlyReads (S.state store.old) (S.state store.new) (S.stood store.old)
         (S.stood store.new) }

@@ -8,4 +8,6 @@ mod entries;
 #[cfg(test)]
 mod mend;
 #[cfg(test)]
+mod rebuild;
+#[cfg(test)]
 mod rows;

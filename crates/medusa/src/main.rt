@@ -6,6 +6,8 @@ use med_folder::{FolderNodes, FolderStore, RealFiles, RealSink};
 use std::alloc::AllocError;
 use std::env;
 use std::env::Env;
+use std::fs::{File, Files};
+use std::io;
 use std::io::ErrorKind;
 use std::process::ExitCode;
 
@@ -25,8 +27,17 @@ fn read_words(rt: &(impl Env + AllocGlobal)) -> Result<Vec<String>, AllocError> 
     }
 }
 
+// Where a standard stream was closed before the program began, a file that is opened later would
+// take its number, and what is printed would be written into that file. Three files that can only be
+// read take these numbers first, so a line is refused then and never lands in an object.
+fn hold_streams<R: Files>(rt: &R) -> [io::Result<R::File>; 3] {
+    let open = || File::open(rt, "/dev/null");
+    [open(), open(), open()]
+}
+
 fn main(rt: HostRuntime) -> ExitCode {
     let alloc = rt.alloc();
+    let _held = hold_streams(&rt);
     let mut out = RealSink::new(rt.stdout());
     let mut err = RealSink::new(rt.stderr());
     let Ok(words) = read_words(&rt) else {

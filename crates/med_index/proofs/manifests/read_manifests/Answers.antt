@@ -32,6 +32,9 @@ returns-in-Err-clause-err g c =
     given.0 c.loop-path.yielded_by c.in-Some.is c.next.ensures.steps) so.told
     c.in-Err.ensures.err
 
+pub returns-in-Err-clause-order : goal.returns-in-Err-clause-order
+returns-in-Err-clause-order g c = c.into_iter-path-iterator.ensures.into_iter_gives.5
+
 pub returns-in-Err-clause-looks : goal.returns-in-Err-clause-looks
 returns-in-Err-clause-looks g c =
     let state = g.S.Storage.state in

@@ -1,4 +1,4 @@
-// The index of a node, made anew from its backups.
+// What a rebuild answers.
 
 /// How many changes a rebuild made.
 #[derive(Clone, Copy, Debug, PartialEq, Eq)]
