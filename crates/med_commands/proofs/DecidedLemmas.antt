@@ -1,70 +1,93 @@
 -- What is told decides how a command ends.
-use Rattle.std.proofs.Common.{◌≡◌, false, List, ℕ, Result, Ok, Err, sym, ◌∙◌, ap, subst}
+use Rattle.std.proofs.Common.{◌≡◌, true, false, List, ℕ, Option, Some, Result, Ok, Err, sym, ◌∙◌, ap, subst}
 use Rattle.med_backup.specs.NodeConfig.{NodeConfig, node_config_of, snap_at}
 use Rattle.med_ini.specs.declared.config.Config.{Config}
-use Rattle.med_outside.specs.Ends.{Refusal, BadWords, NotBuilt, BadConfig, Taken, NoSnapshot, BadFileName, Refused, Leads}
+use Rattle.med_outside.specs.Ends.{Files, on, Refusal, BadWords, NotBuilt, BadConfig, Taken, NoSnapshot, BadFileName, BadManifest, Refused, Plan, step, Leads}
 use Rattle.med_outside.specs.Snapshot.{Snapshot}
 use Rattle.med_outside.specs.World.{World}
 use Rattle.med_outside.specs.declared.mode.Mode.TheVariants.{Full, Differential}
 use Rattle.med_words.specs.Blames.{BlamesWords}
 use Rattle.med_words.specs.Request.{Asked, IsRequest}
-use Rattle.med_words.specs.Tables.{Action, backup, word_of}
+use Rattle.med_words.specs.Tables.{Action, backup, build_index, word_of}
 use Rattle.med_words.specs.declared.request.Usage.{Usage}
 use Rattle.med_words.specs.declared.request.WordsError.TheVariants as words_error
 use Rattle.med_words.proofs.OneRequest.{one_request, asks_nothing}
-use Rattle.med_commands.specs.Decided.{is_built, IsAskedBackup, IsAskedOver, IsDecided}
+use Rattle.med_commands.specs.Decided.{is_built, IsAskedIndex, IsAskedOver, IsDecided}
 use Rattle.med_commands.specs.Headline.{End}
 use Rattle.med_commands.specs.Loaded.{IsConfigured, IsRefused}
-use Rattle.med_commands.specs.Plans.{ReadsConfig, ReadsWords, backup_plan, unbuilt_plan, action_plan, plan_of, words_plan}
+use Rattle.med_commands.specs.Plans.{ReadsConfig, ReadsWords, IsUntouched, unbuilt_plan, action_plan, plan_of, words_plan}
 use Rattle.med_commands.specs.Texts.{usage_text}
 use Rattle.med_commands.proofs.DecidedTexts.{one_usage, one_text}
 use Rattle.med_commands.proofs.DecidedWork.{by_answer, work, node_work, node_leads, free_leads, taken_leads, empty_leads, bad_key_leads}
+use Rattle.med_commands.proofs.IndexDecided.{index_work, all_read_leads, first_unread_leads}
 use Rattle.med_commands.proofs.OneNodeConfig.{one_node_config, not_refused}
 
 -- ---- the config file
 
-module _ (asked : Asked) (n : List ℕ) (a b : World) (asks : IsAskedBackup asked a n) where
-  backup_leads : (r : End) → Leads (backup_plan asked n a b) r → Leads (plan_of asked a b) r
-  backup_leads r leads =
-      subst (λ (action : Action). Leads (action_plan action asked a b) r) (sym asks.action) leads
+module _ (asked : Asked) (a b : World) (file : Option (List ℕ))
+    (file_is : a.files.contents asked.config_file ≡ Some file)
+    (rest : NodeConfig → Plan (Type 0) (Unit {0})) where
+  -- it is read, and what follows that
+  abbrev read_first : Plan (Type 0) (Unit {0})
+  read_first = step (ReadsConfig a.files.contents asked) (on Files) (IsUntouched a b) rest
 
-  over_node_config : (node_config : NodeConfig) (config : Config)
-      → IsConfigured a.files.contents asked config
-      → node_config ≡ node_config_of config → (r : End) → Leads (node_work node_config n a b) r
-      → Leads (plan_of asked a b) r
-  over_node_config node_config config configured is r leads =
-      backup_leads r (by_answer _ _ _
-      (λ other h. subst (λ (t : NodeConfig). Leads (node_work t n a b) r)
-      (is ∙ one_node_config a.files.contents asked asks.file asks.file_is config h.0 configured h.1
-      ∙ sym h.2) leads) (λ f h. absurd (no f h)))
+  config_read : (node_config : NodeConfig) (config : Config)
+      → IsConfigured a.files.contents asked config → node_config ≡ node_config_of config
+      → (r : End) → Leads (rest node_config) r → Leads read_first r
+  config_read node_config config configured is r leads =
+      by_answer _ _ _
+      (λ other h. subst (λ (t : NodeConfig). Leads (rest t) r)
+      (is ∙ one_node_config a.files.contents asked file file_is config h.0 configured h.1
+      ∙ sym h.2) leads) (λ f h. absurd (no f h))
     where
       no : (f : Refusal) → ReadsConfig a.files.contents asked (Err f) → ⊥
       no (BadConfig text) h =
-          not_refused a.files.contents asked asks.file asks.file_is text config configured h
+          not_refused a.files.contents asked file file_is text config configured h
       no (NoSnapshot name) h = h
       no (BadFileName at) h = h
       no (BadWords text) h = h
       no (NotBuilt word) h = h
+      no (BadManifest path) h = h
       no (Taken name path) h = h
 
-  bad_config_leads : (text : List ℕ) → IsRefused a.files.contents asked text
-      → Leads (plan_of asked a b) (Err (Refused (BadConfig text)))
-  bad_config_leads text refused =
-      backup_leads (Err (Refused (BadConfig text)))
-      (by_answer _ _ _
-      (λ node_config h. absurd (not_refused a.files.contents asked asks.file asks.file_is text h.0
-      h.1 refused)) yes)
+  config_refused : (text : List ℕ) → IsRefused a.files.contents asked text
+      → Leads read_first (Err (Refused (BadConfig text)))
+  config_refused text refused =
+      by_answer _ _ _
+      (λ node_config h. absurd (not_refused a.files.contents asked file file_is text h.0 h.1
+      refused)) yes
     where
       yes : (f : Refusal) → ReadsConfig a.files.contents asked (Err f)
           → ◌≡◌ {A = End} (Err (Refused (BadConfig text))) (Err (Refused f))
       yes (BadConfig other) h =
           ap (λ (t : List ℕ). Err (Refused (BadConfig t)))
-          (one_text a.files.contents asked asks.file asks.file_is text other refused h)
+          (one_text a.files.contents asked file file_is text other refused h)
       yes (NoSnapshot name) h = absurd h
       yes (BadFileName at) h = absurd h
       yes (BadWords text) h = absurd h
       yes (NotBuilt word) h = absurd h
+      yes (BadManifest path) h = absurd h
       yes (Taken name path) h = absurd h
+
+bad_config_leads : (action : Action) (asked : Asked) (a b : World) (file : Option (List ℕ))
+    (text : List ℕ) → is_built action ≡ true → a.files.contents asked.config_file ≡ Some file
+    → IsRefused a.files.contents asked text
+    → Leads (action_plan action asked a b) (Err (Refused (BadConfig text)))
+bad_config_leads (backup n Full) asked a b file text e file_is refused =
+    config_refused asked a b file file_is (λ node_config. node_work node_config n a b) text refused
+bad_config_leads build_index asked a b file text e file_is refused =
+    config_refused asked a b file file_is (λ node_config. index_work node_config a b) text refused
+bad_config_leads (backup n Differential) asked a b file text e file_is refused = absurd (cc e)
+bad_config_leads action asked a b file text e file_is refused = absurd (cc e)
+
+-- a rebuild of the index over a config file that is told: the work on the storage decides
+over_index : (asked : Asked) (a b : World) (node_config : NodeConfig)
+    → IsAskedIndex asked a node_config → (r : End) → Leads (index_work node_config a b) r
+    → Leads (plan_of asked a b) r
+over_index asked a b node_config asks r leads =
+    subst (λ (action : Action). Leads (action_plan action asked a b) r) (sym asks.action)
+    (config_read asked a b asks.file asks.file_is (λ t. index_work t a b) node_config asks.config
+    asks.configured asks.node_config_is r leads)
 
 -- a full backup over a snapshot that is told: the work on the snapshot decides
 over_snapshot : (asked : Asked) (node_config : NodeConfig) (n : List ℕ) (a b : World) (s : Snapshot)
@@ -72,8 +95,9 @@ over_snapshot : (asked : Asked) (node_config : NodeConfig) (n : List ℕ) (a b :
     → Leads (work node_config n a b (snap_at a.nodes.snaps node_config n) a.store.content) r
     → Leads (plan_of asked a b) r
 over_snapshot asked node_config n a b s over r leads =
-    over_node_config asked n a b over.asks node_config over.config over.configured
-    over.node_config_is r (node_leads node_config n a b r leads)
+    subst (λ (action : Action). Leads (action_plan action asked a b) r) (sym over.asks.action)
+    (config_read asked a b over.asks.file over.asks.file_is (λ t. node_work t n a b) node_config
+    over.config over.configured over.node_config_is r (node_leads node_config n a b r leads))
 
 -- ---- the command and the words
 
@@ -93,6 +117,7 @@ no_command : (action : Action) (asked : Asked) (a b : World) → is_built action
     → Leads (action_plan action asked a b) (Err (Refused (NotBuilt (word_of action))))
 no_command (backup n Full) asked a b e = absurd (cc e)
 no_command (backup n Differential) asked a b e = unbuilt_leads _ a b
+no_command build_index asked a b e = absurd (cc e)
 no_command action asked a b e = unbuilt_leads _ a b
 
 words_lead : (words : List (List ℕ)) (asked : Asked) (a b : World) (told : End)
@@ -107,6 +132,7 @@ words_lead words asked a b told is leads =
     no (BadFileName at) h = h
     no (BadConfig text) h = h
     no (NotBuilt word) h = h
+    no (BadManifest path) h = h
     no (Taken name path) h = h
 
 bad_words_lead : (words : List (List ℕ)) (usage : Usage) (a b : World)
@@ -125,6 +151,7 @@ bad_words_lead words usage a b blames =
     yes (BadFileName at) h = absurd h
     yes (BadConfig text) h = absurd h
     yes (NotBuilt word) h = absurd h
+    yes (BadManifest path) h = absurd h
     yes (Taken name path) h = absurd h
 
 -- ---- the law
@@ -143,7 +170,14 @@ decided a b = record {
   bad_file_name = λ asked node_config n s at over bad.
       over_snapshot asked node_config n a b s over (Err (Refused (BadFileName at)))
       (bad_key_leads node_config n a b _ _ s over.snapshot_is at bad);
-  no_config = λ asked n text asks refused. bad_config_leads asked n a b asks text refused;
+  all_read = λ asked node_config c asks content read.
+      over_index asked a b node_config asks (Ok tt)
+      (all_read_leads node_config a b c content read);
+  bad_manifest = λ asked node_config c f path asks content has read first.
+      over_index asked a b node_config asks (Err (Refused (BadManifest path)))
+      (first_unread_leads node_config a b c f path content has read first);
+  no_config = λ asked text file built file_is refused.
+      bad_config_leads asked.action asked a b file text built file_is refused;
   unbuilt = λ asked e. no_command asked.action asked a b e;
   words = λ words asked told is leads. words_lead words asked a b told is leads;
   bad_words = λ words usage blames. bad_words_lead words usage a b blames;

@@ -13,7 +13,7 @@ use Rattle.med_backup.specs.NodeConfig.{NodeConfig, snap_at}
 use Rattle.med_backup.specs.Taken.{first_path}
 use Rattle.med_backup.specs.Walked.{CanBeWalked, IsFirstBad}
 use Rattle.med_manifest.specs.declared.manifest.FileRecord.{FileRecord}
-use Rattle.med_outside.specs.Ends.{Refusal, BadWords, NotBuilt, BadConfig, Taken, NoSnapshot, BadFileName, Refused, Plan, then, said_as, Leads}
+use Rattle.med_outside.specs.Ends.{Refusal, BadWords, NotBuilt, BadConfig, Taken, NoSnapshot, BadFileName, BadManifest, Refused, Plan, then, said_as, Leads}
 use Rattle.med_outside.specs.Snapshot.{Snapshot}
 use Rattle.med_outside.specs.World.{World}
 use Rattle.med_commands.specs.Headline.{End}
@@ -128,6 +128,7 @@ module _ (node_config : NodeConfig) (n : List ℕ) (a b : World) where
           no (BadFileName at) w = not_walked s at walked (on (λ s. IsFirstBad at s.order) w)
           no (BadWords text) w = w
           no (NotBuilt word) w = w
+          no (BadManifest path) w = w
           no (BadConfig text) w = w
           no (Taken name path) w = w
 
@@ -144,6 +145,7 @@ module _ (node_config : NodeConfig) (n : List ℕ) (a b : World) where
           no (BadFileName at) h = h
           no (BadWords text) h = h
           no (NotBuilt word) h = h
+          no (BadManifest path) h = h
           no (BadConfig text) h = h
 
       pub taken_leads : (c : Content) (path : List ℕ) → CanBeWalked s → told ≡ Some c
@@ -168,6 +170,7 @@ module _ (node_config : NodeConfig) (n : List ℕ) (a b : World) where
           yes (BadFileName at) h = absurd h
           yes (BadWords text) h = absurd h
           yes (NotBuilt word) h = absurd h
+          yes (BadManifest path) h = absurd h
           yes (BadConfig text) h = absurd h
 
       pub empty_leads : s.order ≡ [] → Leads work (Err (Refused (NoSnapshot n)))
@@ -181,6 +184,7 @@ module _ (node_config : NodeConfig) (n : List ℕ) (a b : World) where
               absurd (no_first at s.order none (on (λ s. IsFirstBad at s.order) w))
           yes (BadWords text) w = absurd w
           yes (NotBuilt word) w = absurd w
+          yes (BadManifest path) w = absurd w
           yes (BadConfig text) w = absurd w
           yes (Taken name path) w = absurd w
 
@@ -198,6 +202,7 @@ module _ (node_config : NodeConfig) (n : List ℕ) (a b : World) where
               (one_first s.order at other bad (on (λ s. IsFirstBad other s.order) w))
           yes (BadWords text) w = absurd w
           yes (NotBuilt word) w = absurd w
+          yes (BadManifest path) w = absurd w
           yes (BadConfig text) w = absurd w
           yes (Taken name path) w = absurd w
 

@@ -2,5 +2,9 @@ pub mod BackupSteps
 pub mod DecidedLemmas
 pub mod DecidedTexts
 pub mod DecidedWork
+pub mod IndexDecided
+pub mod IndexEnds
+pub mod IndexFacts
+pub mod IndexSteps
 pub mod OneNodeConfig
 pub mod Printing

@@ -1,19 +1,23 @@
 -- How a command ends where what it meets is told, as the law `what_is_told_decides` has it. A plan
 -- leads to an end where each call of it ends so, but for devices that fail.
 use Rattle.std.specs.Prelude.{◌≡◌, ℕ, Bool, true, false, List, [], Option, Some, Result, Ok, Err}
+use Rattle.std.specs.declared.cmp.Ordering.TheVariants.{Less}
 use Rattle.med_base.specs.Content.{Content, objects_under}
 use Rattle.med_base.specs.Layout.{backup_folder}
+use Rattle.med_base.specs.NameOrder.{name_cmp}
 use Rattle.med_backup.specs.NodeConfig.{NodeConfig, node_config_of, snap_at}
 use Rattle.med_backup.specs.Taken.{first_path}
 use Rattle.med_backup.specs.Walked.{CanBeWalked, IsFirstBad}
+use Rattle.med_index.specs.Rows.{HasBackup}
 use Rattle.med_ini.specs.declared.config.Config.{Config}
-use Rattle.med_outside.specs.Ends.{BadWords, NotBuilt, BadConfig, Taken, NoSnapshot, BadFileName, Stop, Refused, Leads}
+use Rattle.med_manifest.specs.Reads.{DoAllRead, IsFirstUnread}
+use Rattle.med_outside.specs.Ends.{BadWords, NotBuilt, BadConfig, Taken, NoSnapshot, BadFileName, BadManifest, Stop, Refused, Leads}
 use Rattle.med_outside.specs.Snapshot.{Snapshot}
 use Rattle.med_outside.specs.World.{World}
 use Rattle.med_outside.specs.declared.mode.Mode.TheVariants.{Full}
 use Rattle.med_words.specs.Blames.{BlamesWords}
 use Rattle.med_words.specs.Request.{Asked, IsRequest}
-use Rattle.med_words.specs.Tables.{Action, backup, word_of}
+use Rattle.med_words.specs.Tables.{Action, backup, build_index, word_of}
 use Rattle.med_words.specs.declared.request.Usage.{Usage}
 use Rattle.med_words.specs.declared.request.WordsError.TheVariants as words_error
 use Rattle.med_commands.specs.Loaded.{IsConfigured, IsRefused}
@@ -22,9 +26,10 @@ use Rattle.med_commands.specs.Texts.{usage_text}
 
 -- ---- what is told
 
--- the full backup of a node is the only command that is built
+-- the commands that are built: the full backup of a node, and the rebuild of the index
 abbrev pub is_built : Action → Bool
 is_built (backup n Full) = true
+is_built build_index = true
 is_built action = false
 
 -- a full backup of this name is asked for, and the files tell of the config file: what its bytes
@@ -43,6 +48,16 @@ pub record IsAskedOver (asked : Asked) (a : World) (node_config : NodeConfig) (n
   pub configured : IsConfigured a.files.contents asked config
   pub node_config_is : node_config ≡ node_config_of config
   pub snapshot_is : snap_at a.nodes.snaps node_config n ≡ Some s
+
+-- a rebuild of the index is asked for, and the files tell of a config file that gives this
+-- configuration
+pub record IsAskedIndex (asked : Asked) (a : World) (node_config : NodeConfig) : Type 0 where
+  pub action : asked.action ≡ build_index
+  pub file : Option (List ℕ)
+  pub file_is : a.files.contents asked.config_file ≡ Some file
+  pub config : Config
+  pub configured : IsConfigured a.files.contents asked config
+  pub node_config_is : node_config ≡ node_config_of config
 
 -- ---- how a full backup ends
 
@@ -77,13 +92,36 @@ BadKeyIsRefused a b =
     → IsAskedOver asked a node_config n s → IsFirstBad at s.order
     → Leads (plan_of asked a b) (Err (Refused (BadFileName at)))
 
--- the config file gives no configuration
-abbrev pub BadConfigIsRefused : World → World → Type 0
-BadConfigIsRefused a b = (asked : Asked) (n text : List ℕ)
-    → IsAskedBackup asked a n → IsRefused a.files.contents asked text
-    → Leads (plan_of asked a b) (Err (Refused (BadConfig text)))
+-- ---- how a rebuild of the index ends
+
+-- the manifests of each node that has a backup read: the command ends well
+abbrev pub AllReadIsDone : World → World → Type 0
+AllReadIsDone a b =
+    (asked : Asked) (node_config : NodeConfig) (c : Content)
+    → IsAskedIndex asked a node_config → a.store.content ≡ Some c
+    → ((f : List ℕ) → HasBackup c node_config.before f → DoAllRead node_config.before c f [])
+    → Leads (plan_of asked a b) (Ok tt)
+
+-- those of a node don't, and those of the nodes before it in byte order do: the first of its
+-- manifests that doesn't read is told
+abbrev pub UnreadIsRefused : World → World → Type 0
+UnreadIsRefused a b =
+    (asked : Asked) (node_config : NodeConfig) (c : Content) (f path : List ℕ)
+    → IsAskedIndex asked a node_config → a.store.content ≡ Some c
+    → HasBackup c node_config.before f
+    → ((g : List ℕ) → HasBackup c node_config.before g → name_cmp g f ≡ Less
+    → DoAllRead node_config.before c g [])
+    → IsFirstUnread node_config.before c f [] path
+    → Leads (plan_of asked a b) (Err (Refused (BadManifest path)))
 
 -- ---- how all commands end
+
+-- the command is built, and the config file, which is told, gives no configuration
+abbrev pub BadConfigIsRefused : World → World → Type 0
+BadConfigIsRefused a b = (asked : Asked) (text : List ℕ) (file : Option (List ℕ))
+    → is_built asked.action ≡ true → a.files.contents asked.config_file ≡ Some file
+    → IsRefused a.files.contents asked text
+    → Leads (plan_of asked a b) (Err (Refused (BadConfig text)))
 
 -- the command isn't built, whatever the config file is
 abbrev pub UnbuiltIsRefused : World → World → Type 0
@@ -110,6 +148,8 @@ pub record IsDecided (a b : World) : Type 0 where
   pub taken : TakenIsRefused a b
   pub no_snapshot : EmptyIsRefused a b
   pub bad_file_name : BadKeyIsRefused a b
+  pub all_read : AllReadIsDone a b
+  pub bad_manifest : UnreadIsRefused a b
   pub no_config : BadConfigIsRefused a b
   pub unbuilt : UnbuiltIsRefused a b
   pub words : WordsDecide a b

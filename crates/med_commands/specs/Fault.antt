@@ -3,6 +3,8 @@ use Rattle.std.specs.Prelude.{ℕ, List, string_bytes}
 use Rattle.med_backup.specs.declared.look.BackupError.{BackupError}
 use Rattle.med_backup.specs.declared.look.BackupError.TheVariants as error
 use Rattle.med_backup.specs.declared.place.CopyFault.TheVariants as copy
+use Rattle.med_index.specs.declared.errors.IndexError.{IndexError}
+use Rattle.med_index.specs.declared.errors.IndexError.TheVariants as index
 use Rattle.med_ini.specs.Options.{missing, bad_number, bad_name, unsupported}
 use Rattle.med_ini.specs.declared.config.ConfigError.{ConfigError}
 use Rattle.med_ini.specs.declared.config.ConfigError.TheVariants as options
@@ -12,7 +14,7 @@ use Rattle.med_outside.specs.Ends.{Stop, Refused, Failed}
 use Rattle.med_commands.specs.Headline.{status_of_stop, text_of_stop}
 use Rattle.med_commands.specs.Texts.{usage_text, no_file_text, line_text, option_text}
 use Rattle.med_commands.specs.declared.fault.Fault.{Fault}
-use Rattle.med_commands.specs.declared.fault.Fault.TheVariants.{Usage, NotBuilt, Config, Taken, NoSnapshot, BadFileName, Nodes, Storage, Output, Memory}
+use Rattle.med_commands.specs.declared.fault.Fault.TheVariants.{Usage, NotBuilt, Config, Taken, NoSnapshot, BadFileName, BadManifest, Nodes, Storage, Output, Memory}
 use Rattle.med_commands.specs.declared.load.LoadError.{LoadError}
 use Rattle.med_commands.specs.declared.load.LoadError.TheVariants as load
 use Rattle.med_commands.specs.declared.status.Status.{Status}
@@ -45,6 +47,7 @@ stop_of (Config error) = stop_of_load error
 stop_of (Taken name path) = Refused (ends.Taken name path)
 stop_of (NoSnapshot name) = Refused (ends.NoSnapshot name)
 stop_of (BadFileName at) = Refused (ends.BadFileName at)
+stop_of (BadManifest path) = Refused (ends.BadManifest path)
 stop_of Nodes = Failed ends.Nodes
 stop_of Storage = Failed ends.Storage
 stop_of Output = Failed ends.Output
@@ -64,3 +67,9 @@ fault_for name (error.Taken path) = Taken name path
 fault_for name (error.Fault copy.Snap) = Nodes
 fault_for name (error.Fault copy.Store) = Storage
 fault_for name (error.Fault copy.Memory) = Memory
+
+-- the fault that an error of a rebuild is
+abbrev pub fault_of_rebuild : IndexError → Fault
+fault_of_rebuild (index.BadManifest path why) = BadManifest path
+fault_of_rebuild index.Store = Storage
+fault_of_rebuild index.Memory = Memory

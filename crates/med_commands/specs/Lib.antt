@@ -1,6 +1,7 @@
 pub mod Decided
 pub mod Fault
 pub mod Headline
+pub mod Indexed
 pub mod Loaded
 pub mod Plans
 pub mod Printed

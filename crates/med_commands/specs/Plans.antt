@@ -3,24 +3,26 @@
 use Rattle.std.specs.Prelude.{◌≡◌, ℕ, List, [], ◌∷◌, Option, IfSome, Result, Ok, Err}
 use Rattle.med_base.specs.Content.{Content}
 use Rattle.med_backup.specs.Backup.{FinishesBackup, IsBackupOf}
+use Rattle.med_backup.specs.Copies.{ChangeLists, IsNothing, IsMadeBy}
 use Rattle.med_backup.specs.Plan.{Passed, Left, Leaves, node_plan, tagged_at}
 use Rattle.med_backup.specs.BackedUp.{IsBackedUpFrom}
 use Rattle.med_backup.specs.NodeConfig.{NodeConfig, node_config_of, opened_at, snap_at}
 use Rattle.med_ini.specs.declared.config.Config.{Config}
 use Rattle.med_manifest.specs.declared.manifest.FileRecord.{FileRecord}
 use Rattle.med_outside.specs.Counts.{opened_once}
-use Rattle.med_outside.specs.Ends.{Files, Output, Memory, on, Refusal, BadWords, NotBuilt, BadConfig, Plan, last, step, then, said_as}
-use Rattle.med_outside.specs.State.{ChangesWithin}
+use Rattle.med_outside.specs.Ends.{Files, Storage, Output, Memory, on, Refusal, BadWords, NotBuilt, BadConfig, Plan, last, step, then, said_as}
+use Rattle.med_outside.specs.State.{State, ChangesWithin}
 use Rattle.med_outside.specs.World.{FileContents, World}
 use Rattle.med_outside.specs.declared.mode.Mode.TheVariants.{Full}
 use Rattle.med_words.specs.Blames.{BlamesWords}
 use Rattle.med_words.specs.Request.{Asked, IsRequest}
-use Rattle.med_words.specs.Tables.{Action, backup, word_of}
+use Rattle.med_words.specs.Tables.{Action, backup, build_index, word_of}
 use Rattle.med_words.specs.declared.request.Usage.{Usage}
 use Rattle.med_words.specs.declared.request.WordsError.TheVariants as words_error
+use Rattle.med_commands.specs.Indexed.{Rebuilt, AreIndexed, all_of, nodes_plan}
 use Rattle.med_commands.specs.Loaded.{IsConfigured, IsRefused}
 use Rattle.med_commands.specs.Printed.{Wrote, WrotePart}
-use Rattle.med_commands.specs.Report.{report_line}
+use Rattle.med_commands.specs.Report.{report_line, index_lines}
 use Rattle.med_commands.specs.Texts.{usage_text}
 
 -- ---- what steps answer
@@ -71,6 +73,14 @@ pub record IsDone (node_config : NodeConfig) (n : List ℕ) (a b : World) (files
       (snap_at a.nodes.snaps node_config n)
       (opened_at node_config a.store) b.store a.stood b.stood files
 
+-- The index of each node that has a backup is exact, and all else stands as before (`AreIndexed`).
+-- Exactly these lists of changes were made, one after another, in the bucket of the config file,
+-- which was opened for it; and no node was asked anything.
+pub record IsIndexed (node_config : NodeConfig) (rows : List Rebuilt) (a b : World) : Type 0 where
+  pub indexed : IfTold a.store.content b.store.content (AreIndexed node_config.before)
+  pub made : ChangesWithin (all_of rows) (opened_at node_config a.store) b.store a.stood b.stood
+  pub nodes : b.nodes ≡ a.nodes
+
 -- ---- plans
 
 -- the last step prints a line; it was written whole, or in part
@@ -87,6 +97,21 @@ backup_plan asked n a b =
     × (b.out ≡ a.out)) (node_plan node_config n a.nodes.snaps a.store.content)) (λ files.
     prints (report_line n node_config.node files) (IsDone node_config n a b files) a b))
 
+-- what the work on the storage leaves: what was opened, one of these lists of changes, and nothing
+-- else
+abbrev pub IsLeft : (bucket : State → State) → ChangeLists → (a b : World) → Type 0
+IsLeft bucket made a b =
+    IsMadeBy (bucket a.store) b.store a.stood b.stood made × (b.nodes ≡ a.nodes) × (b.out ≡ a.out)
+
+-- the index of each node that has a backup is made anew
+abbrev pub index_plan : Asked → (a b : World) → Plan (Type 0) (Unit {0})
+index_plan asked a b =
+    step (ReadsConfig a.files.contents asked) (on Files) (IsUntouched a b) (λ node_config.
+    step {T = Unit {0}} Passed (on Storage) (IsLeft (λ s. s) IsNothing a b) (λ _.
+    then (said_as (λ made. IsLeft (opened_at node_config) made a b)
+    (nodes_plan node_config.before a.store.content)) (λ rows.
+    prints (index_lines rows) (IsIndexed node_config rows a b) a b)))
+
 -- a command that isn't built yet
 abbrev pub unbuilt_plan : List ℕ → (a b : World) → Plan (Type 0) (Unit {0})
 unbuilt_plan word a b =
@@ -94,6 +119,7 @@ unbuilt_plan word a b =
 
 abbrev pub action_plan : Action → Asked → (a b : World) → Plan (Type 0) (Unit {0})
 action_plan (backup n Full) asked a b = backup_plan asked n a b
+action_plan build_index asked a b = index_plan asked a b
 action_plan action asked a b = unbuilt_plan (word_of action) a b
 
 abbrev pub plan_of : Asked → (a b : World) → Plan (Type 0) (Unit {0})

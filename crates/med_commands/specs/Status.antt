@@ -1,7 +1,7 @@
 -- The exit statuses as numbers.
 use Rattle.std.specs.Prelude.{◌≡◌, ℕ}
 use Rattle.med_commands.specs.declared.status.Status.{Status}
-use Rattle.med_commands.specs.declared.status.Status.TheVariants.{Done, Usage, Config, Taken, ReadFault, StorageFault, WriteFault, BadSnapshot, Memory}
+use Rattle.med_commands.specs.declared.status.Status.TheVariants.{Done, Usage, Config, Taken, ReadFault, StorageFault, WriteFault, BadSnapshot, BadManifest, Memory}
 
 abbrev pub code : Status → ℕ
 code Done = 0
@@ -12,6 +12,7 @@ code ReadFault = 7
 code StorageFault = 8
 code WriteFault = 10
 code BadSnapshot = 11
+code BadManifest = 13
 code Memory = 20
 
 -- the number is that of a status of which this holds

@@ -40,3 +40,6 @@ no_snapshot_text name = codes "no snapshot " ++ tag_of name
 
 abbrev pub bad_file_text : ℕ → List ℕ
 bad_file_text at = codes "bad file name at " ++ decimal at
+
+abbrev pub bad_manifest_text : List ℕ → List ℕ
+bad_manifest_text path = codes "bad manifest " ++ path

@@ -1,7 +1,7 @@
 // The faults of a command, and their texts, which take no memory to print.
 ghost use Rattle.std.specs.Prelude.{◌≡◌, ◌≤◌, OnErr};
 ghost use Rattle.med_outside.specs.Causes.{RoseOrFull};
-ghost use Rattle.med_commands.specs.Fault.{fault_text, fault_for, status_of_fault};
+ghost use Rattle.med_commands.specs.Fault.{fault_text, fault_for, fault_of_rebuild, status_of_fault};
 ghost use Rattle.med_commands.specs.Texts.{usage_text, taken_text, no_snapshot_text, bad_file_text};
 ghost use Rattle.med_commands.specs.Printed.{Prints, Complains, complaint};
 ghost use Rattle.med_commands.specs.declared.fault.Fault.TheVariants.{Config};
@@ -13,6 +13,7 @@ use crate::print_config::say_config;
 use itoa::Buffer;
 use med_backup::{BackupError, CopyFault};
 use med_base::{BackupName, ObjPath};
+use med_index::IndexError;
 use med_outside::{Sink, SinkFailed};
 use med_words::Usage;
 
@@ -26,6 +27,7 @@ pub(crate) enum Fault {
     Taken { name: BackupName, path: ObjPath },
     NoSnapshot { name: BackupName },
     BadFileName { at: usize },
+    BadManifest { path: ObjPath },
     /// The count of faults of the nodes or of a snapshot rose.
     Nodes,
     /// The storage's count of faults rose.
@@ -49,6 +51,17 @@ pub(crate) fn fault_of(name: BackupName, error: BackupError) -> Fault
     }
 }
 
+/// The fault that an error of a rebuild of an index is.
+pub(crate) fn fault_of_rebuild(error: IndexError) -> Fault
+    ensures { result ≡ fault_of_rebuild error }
+{
+    match error {
+        IndexError::BadManifest { path, why: _ } => Fault::BadManifest { path },
+        IndexError::Store => Fault::Storage,
+        IndexError::Memory => Fault::Memory,
+    }
+}
+
 impl From<LoadError> for Fault {
     ghost from_gives = { λ error fault. fault ≡ Config error };
 
@@ -67,6 +80,7 @@ impl Fault {
             Fault::Config(error) => error.status(),
             Fault::Taken { name: _, path: _ } => Status::Taken,
             Fault::NoSnapshot { name: _ } | Fault::BadFileName { at: _ } => Status::BadSnapshot,
+            Fault::BadManifest { path: _ } => Status::BadManifest,
             Fault::Nodes => Status::ReadFault,
             Fault::Storage => Status::StorageFault,
             Fault::Output => Status::WriteFault,
@@ -152,6 +166,7 @@ fn say_fault<E: Sink>(err: &mut E, fault: &Fault) -> Result<(), SinkFailed>
         Fault::Taken { name, path } => say_taken(err, name.as_str(), path.as_str()),
         Fault::NoSnapshot { name } => say_no_snapshot(err, name.as_str()),
         Fault::BadFileName { at } => say_bad_file(err, *at),
+        Fault::BadManifest { path } => say_named(err, b"bad manifest ", path.as_str().as_bytes()),
         Fault::Nodes => say(err, b"read fault"),
         Fault::Storage => say(err, b"storage fault"),
         Fault::Output => say(err, b"write fault"),

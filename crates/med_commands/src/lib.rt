@@ -1,12 +1,14 @@
 //! The commands, and the top call that the program makes.
 //!
-//! `medusa_main` reads the words, backs up one node into the bucket and prints one line, or tells
-//! its fault in one line. Its contract is one clause: the command ended as its plan has it.
+//! `medusa_main` reads the words, backs up one node into the bucket or makes the index of each node
+//! anew, and prints its lines, or tells its fault in one line. Its contract is one clause: the
+//! command ended as its plan has it.
 //! Read `specs/Plans.antt` first, then `specs/Headline.antt`.
 #![tactic(auto)]
 
 mod backup;
 mod fault;
+mod index;
 mod laws;
 mod load;
 mod main_call;

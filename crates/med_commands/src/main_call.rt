@@ -14,6 +14,7 @@ ghost use Rattle.med_commands.specs.declared.status.Status.TheVariants.{Memory};
 use crate::Status;
 use crate::backup::back_up;
 use crate::fault::{Fault, tell};
+use crate::index::build_index;
 use med_outside::{Files, Mode, Nodes, Sink, Storage};
 use med_words::{Command, Request, WordsError, read_words};
 use std::alloc::Global;
@@ -45,6 +46,7 @@ fn run<F: Files, S: Storage, N: Nodes, O: Sink>(
             name,
             mode: Mode::Full,
         } => back_up(alloc, request, name, files, store, nodes, out),
+        Command::BuildIndex => build_index(alloc, request, files, store, out),
         command => Err(Fault::NotBuilt {
             word: command.word(),
         }),

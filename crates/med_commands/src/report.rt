@@ -1,8 +1,9 @@
-// The line that a backup prints.
-ghost use Rattle.std.specs.Prelude.{◌≡◌, IfOk, length, string_bytes};
-ghost use Rattle.med_commands.specs.Report.{report_head, report_tail, report_line, total_bytes};
+// The line that a backup prints, and that of a node whose index was made anew.
+ghost use Rattle.std.specs.Prelude.{◌≡◌, ◌++◌, IfOk, OnOk, length, string_bytes};
+ghost use Rattle.med_commands.specs.Report.{report_head, report_tail, report_line, index_line, total_bytes};
 
 use med_base::{BackupName, Fqdn};
+use med_index::IndexReport;
 use med_manifest::FileRecord;
 use std::alloc::{AllocError, Global};
 
@@ -45,4 +46,29 @@ pub(crate) fn line_of(
     let end = tail(alloc, count, bytes)?;
     line.push_str(end.as_str())?;
     Ok(line)
+}
+
+fn index_line(alloc: Global, node: &Fqdn, report: IndexReport) -> Result<String, AllocError>
+    ensures { IfOk result
+        (λ line. string_bytes line ≡ index_line node.now report.put report.deleted) }
+{
+    let node = node.as_str();
+    let (put, deleted) = (report.put, report.deleted);
+    format!(in alloc; "index of {node}: {put} put, {deleted} deleted\n")
+}
+
+/// Adds the line of a node whose index was made anew.
+pub(crate) fn add_index_line(
+    alloc: Global,
+    node: &Fqdn,
+    report: IndexReport,
+    lines: &mut String,
+) -> Result<(), AllocError>
+    ensures { OnOk result
+        (string_bytes lines.new
+        ≡ string_bytes lines.old ++ index_line node.now report.put report.deleted) }
+{
+    let line = index_line(alloc, node, report)?;
+    lines.push_str(line.as_str())?;
+    Ok(())
 }

@@ -21,6 +21,8 @@ pub enum Status {
     WriteFault,
     /// 11: the snapshot has no key, or a key with a part that is no component.
     BadSnapshot,
+    /// 13: a manifest doesn't read, and nothing of its node changed.
+    BadManifest,
     /// 20: there was no memory.
     Memory,
 }
@@ -39,6 +41,7 @@ impl Status {
             Status::StorageFault => 8,
             Status::WriteFault => 10,
             Status::BadSnapshot => 11,
+            Status::BadManifest => 13,
             Status::Memory => 20,
         }
     }

@@ -27,6 +27,8 @@ pub data Refusal : Type 0 where
   NoSnapshot : (name : List ℕ) → Refusal
   -- the key at this place of the snapshot's list has a part that is no component
   BadFileName : (at : ℕ) → Refusal
+  -- the manifest under this path, which is a finished backup's, doesn't read
+  BadManifest : (path : List ℕ) → Refusal
 
 -- why a call ended before its last step
 pub data Stop : Type 0 where
