@@ -6,6 +6,8 @@
 #[cfg(test)]
 mod calls;
 #[cfg(test)]
+mod index;
+#[cfg(test)]
 mod pieces;
 #[cfg(test)]
 mod refused;
