@@ -6,9 +6,10 @@ ghost use Rattle.med_folder.specs.Snapshots.{table_folder, key_of, keys_for};
 use crate::faults::is_absent;
 use crate::files::{Found, check_folder, look_below};
 use crate::paths::joined;
+use crate::ways::Ways;
 use med_outside::RawKey;
 use std::alloc::{AllocError, Global};
-use std::fs::{Files, ReadDir};
+use std::fs::{Files, Metadata, ReadDir};
 use std::{fs, io};
 
 /// What a folder holds, in byte order: the names of its plain files, and those of its folders.
@@ -116,27 +117,58 @@ pub(crate) fn table_folder(
     Ok(folder)
 }
 
-// The same from the folder of the node's data on, or none where the table has no such snapshot or a
-// link leads there. A table that is gone is a refusal.
+// The folder of a table's files, noted as found plain.
+fn found_folder(
+    alloc: Global,
+    table: &str,
+    below: &str,
+    metadata: &Metadata,
+    ways: &mut Ways,
+) -> io::Result<String> {
+    let folder = joined(alloc, table, below)?;
+    ways.note(alloc, folder.as_str(), metadata)?;
+    Ok(folder)
+}
+
+// The folder of the files of the table whose own folder is given, or none where the table has no such
+// snapshot or a link leads there. The table's own folder was looked at when it was listed; where it
+// is gone, it is a refusal.
 fn snapshot_folder<R: Files>(
+    rt: &R,
+    alloc: Global,
+    table: &str,
+    tag: &str,
+    ways: &mut Ways,
+) -> io::Result<Option<String>> {
+    let below = joined(alloc, "snapshots", tag)?;
+    match look_below(rt, alloc, table, below.as_str())? {
+        Found::Here(metadata) if metadata.is_dir() => {
+            let folder = found_folder(alloc, table, below.as_str(), &metadata, ways)?;
+            Ok(Some(folder))
+        }
+        Found::Nothing => {
+            check_folder(rt, table)?;
+            Ok(None)
+        }
+        _ => Ok(None),
+    }
+}
+
+// The files of a table of a keyspace, where it has such a snapshot.
+fn keys_of_snapshot<R: Files + AllocGlobal + Clone + Drop>(
     rt: &R,
     alloc: Global,
     data: &str,
     keyspace: &str,
     table: &str,
     tag: &str,
-) -> io::Result<Option<String>> {
-    let folder = table_folder(alloc, keyspace, table, tag)?;
-    match look_below(rt, alloc, data, folder.as_str())? {
-        Found::Here(metadata) if metadata.is_dir() => {
-            Ok(Some(joined(alloc, data, folder.as_str())?))
-        }
-        Found::Nothing => {
-            let keyspace = joined(alloc, data, keyspace)?;
-            check_folder(rt, joined(alloc, keyspace.as_str(), table)?.as_str())?;
-            Ok(None)
-        }
-        _ => Ok(None),
+    ways: &mut Ways,
+    keys: &mut Vec<RawKey>,
+) -> io::Result<()> {
+    let place = joined(alloc, joined(alloc, data, keyspace)?.as_str(), table)?;
+    match snapshot_folder(rt, alloc, place.as_str(), tag, ways)? {
+        Some(folder) => keys_of_table(rt, alloc, folder.as_str(), keyspace, table, keys),
+        None => Ok(()),
     }
 }
 
@@ -146,6 +178,7 @@ fn keys_of_keyspace<R: Files + AllocGlobal + Clone + Drop>(
     data: &str,
     keyspace: &str,
     tag: &str,
+    ways: &mut Ways,
     keys: &mut Vec<RawKey>,
 ) -> io::Result<()> {
     let path = joined(alloc, data, keyspace)?;
@@ -153,21 +186,21 @@ fn keys_of_keyspace<R: Files + AllocGlobal + Clone + Drop>(
     for table in &tables.folders {
         let table = table.as_str();
         if !table.contains('.') {
-            if let Some(folder) = snapshot_folder(rt, alloc, data, keyspace, table, tag)? {
-                keys_of_table(rt, alloc, folder.as_str(), keyspace, table, keys)?;
-            }
+            keys_of_snapshot(rt, alloc, data, keyspace, table, tag, ways, keys)?;
         }
     }
     Ok(())
 }
 
 /// The keys of all files that the node has under a tag: none where it has no folder of data. A
-/// folder that was listed and is gone when it is read is a refusal.
+/// folder that was listed and is gone when it is read is a refusal. The folders of tables are noted
+/// as found plain.
 pub(crate) fn keys_of_node<R: Files + AllocGlobal + Clone + Drop>(
     rt: &R,
     alloc: Global,
     node: &str,
     tag: &str,
+    ways: &mut Ways,
 ) -> io::Result<Vec<RawKey>> {
     let data = joined(alloc, node, "data")?;
     let data = data.as_str();
@@ -178,7 +211,7 @@ pub(crate) fn keys_of_node<R: Files + AllocGlobal + Clone + Drop>(
         Err(error) => return Err(error),
     };
     for keyspace in &keyspaces.folders {
-        keys_of_keyspace(rt, alloc, data, keyspace.as_str(), tag, &mut keys)?;
+        keys_of_keyspace(rt, alloc, data, keyspace.as_str(), tag, ways, &mut keys)?;
     }
     Ok(keys)
 }

@@ -61,7 +61,7 @@ impl<R: Files + AllocGlobal + Clone + Drop> Nodes for FolderNodes<R> {
         let outcome = node_folder(&self.rt, alloc, root, node, tag);
         let folder = counted(&mut self.faults, outcome)?;
         let opened = self.snapshots.open(alloc, root, node, tag)?;
-        Ok(FolderSnap::new(folder, opened))
+        Ok(FolderSnap::new(alloc, folder, opened))
     }
 
     fn close(&mut self, snap: FolderSnap<R>) {

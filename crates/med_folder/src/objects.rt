@@ -8,14 +8,14 @@ use crate::files::{remove_there, sync_there, sync_way, write_anew};
 use crate::locks::{Change, part_place};
 use crate::measure::fingerprint_read;
 use crate::paths::{is_object_path, joined, parent_of};
-use crate::pieces::{end_of, next_piece};
+use crate::pieces::{Reading, going_on, read_on, reading_from};
 use crate::seconds::modified_second;
 use crate::tree::Tree;
 use med_outside::{Piece, Stat};
 use std::alloc::Global;
 use std::fs::{File, Files, Metadata};
 use std::io;
-use std::io::{ErrorKind, Read, Seek, SeekFrom};
+use std::io::{ErrorKind, Read};
 
 /// The path of an object's file. Where no bucket is open, or no object can have the path, it
 /// refuses.
@@ -141,24 +141,49 @@ impl<R: Files<File = File>> Tree<R> {
         Ok(Some(bytes))
     }
 
-    /// The bytes of an object from a place on, up to a piece.
+    // The file of an object at a place, or none where there is no such object: the one that is being
+    // read, where its next piece begins there, or the file opened anew.
+    fn reading_at(
+        &mut self,
+        alloc: Global,
+        bucket: &str,
+        reading: Option<Reading<File>>,
+        path: &str,
+        from: u64,
+    ) -> io::Result<Option<Reading<File>>>
+        ensures object { OnOk result (is_object_path path.now ≡ true) }
+        ensures path { IfOk result (λ found. IfSome found
+            (λ reading. string_bytes reading.path ≡ path.now)) }
+        ensures place { IfOk result (λ found. IfSome found (λ reading. reading.place ≡ from)) }
+    {
+        place_of(alloc, bucket, path)?;
+        if let Some(reading) = going_on(reading, path, from) {
+            return Ok(Some(reading));
+        }
+        let Some(file) = self.open_there(alloc, bucket, path)? else {
+            return Ok(None);
+        };
+        let path = String::from_str(alloc, path)?;
+        Ok(Some(reading_from(file, path, from)?))
+    }
+
+    /// The bytes of an object from a place on, up to a piece, and the file where the piece is full.
     pub(crate) fn piece(
         &mut self,
         alloc: Global,
         bucket: &str,
+        reading: Option<Reading<File>>,
         path: &str,
         from: u64,
-    ) -> io::Result<Option<Piece>>
+    ) -> io::Result<Option<(Piece, Option<Reading<File>>)>>
         ensures place { OnOk result (is_object_path path.now ≡ true) }
-        ensures range { IfOk result (λ found. IfSome found (EndsInRange from)) }
+        ensures range { IfOk result
+            (λ found. IfSome found (λ read. EndsInRange from read.0)) }
     {
-        let Some(mut file) = self.open_there(alloc, bucket, path)? else {
-            return Ok(None);
-        };
-        file.seek(SeekFrom::Start(from))?;
-        let piece = next_piece(alloc, &mut file)?;
-        end_of(from, &piece)?;
-        Ok(Some(piece))
+        match self.reading_at(alloc, bucket, reading, path, from)? {
+            Some(reading) => Ok(Some(read_on(alloc, reading)?)),
+            None => Ok(None),
+        }
     }
 
     /// Removes an object's file, where there is one. The system has kept all that waited before.

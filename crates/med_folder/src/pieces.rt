@@ -1,13 +1,13 @@
 // Pieces of a file, read one behind the other.
-ghost use Rattle.std.specs.Prelude.{◌≡◌, ◌≤◌, ◌<◌, ◌+◌, ℕ, List, Option, IfOk, OnOk, length, take};
+ghost use Rattle.std.specs.Prelude.{◌≡◌, ◌≤◌, ◌<◌, ◌+◌, ℕ, List, Option, IfOk, IfSome, OnOk, length, string_bytes, take};
 ghost use Rattle.std.specs.Io.KnownBytes.{Consumes, IsAtEnd};
-ghost use Rattle.med_outside.specs.Pieces.{piece_size};
+ghost use Rattle.med_outside.specs.Pieces.{EndsInRange, piece_size};
 
 use crate::measure::read_some;
 use med_outside::{PIECE, Piece};
 use std::alloc::Global;
 use std::io;
-use std::io::{ErrorKind, Read};
+use std::io::{ErrorKind, Read, Seek, SeekFrom};
 
 // How many bytes of a file are read first. Most files of a table have fewer.
 const SMALL: usize = 16_384;
@@ -53,9 +53,9 @@ fn read_up_to<F: Read>(file: &mut F, bytes: &mut Vec<u8>, size: usize) -> io::Re
     Ok(())
 }
 
-/// The bytes that a file has left, up to a piece. It isn't full only where the file ended. There is
-/// room for a piece only where the file has more than a small one.
-pub(crate) fn next_piece<F: Read>(alloc: Global, file: &mut F) -> io::Result<Piece>
+// The bytes that a file has left, up to a piece. It isn't full only where the file ended. There is
+// room for a piece only where the file has more than a small one.
+fn next_piece<F: Read>(alloc: Global, file: &mut F) -> io::Result<Piece>
     ensures bytes { IfOk result (Consumes (F.remaining file.old) (F.remaining file.new)) }
     ensures end { IfOk result
         (λ piece. length piece < piece_size → IsAtEnd (F.remaining file.new)) }
@@ -69,12 +69,77 @@ pub(crate) fn next_piece<F: Read>(alloc: Global, file: &mut F) -> io::Result<Pie
     Ok(Piece::from_vec(bytes))
 }
 
-/// The place behind a piece that begins at a place. Where it has no number, it refuses.
-pub(crate) fn end_of(from: u64, piece: &Piece) -> io::Result<u64>
+// The place behind a piece that begins at a place. Where it has no number, it refuses.
+fn end_of(from: u64, piece: &Piece) -> io::Result<u64>
     ensures { IfOk result (λ end. end ≡ from + length piece.now) }
 {
     match from.checked_add(piece.bytes().len() as u64) {
         Some(end) => Ok(end),
         None => Err(io::Error::from(ErrorKind::FileTooLarge)),
     }
+}
+
+/// A file that is read piece by piece, under a path, and the place where its next piece begins.
+#[derive(Drop)]
+pub(crate) struct Reading<F> {
+    pub(crate) file: F,
+    pub(crate) path: String,
+    pub(crate) place: u64,
+}
+
+/// A file that was opened, set to a place.
+pub(crate) fn reading_from<F: Seek + Drop>(
+    file: F,
+    path: String,
+    from: u64,
+) -> io::Result<Reading<F>>
+    ensures path { IfOk result (λ reading. string_bytes reading.path ≡ string_bytes path) }
+    ensures place { IfOk result (λ reading. reading.place ≡ from) }
+{
+    let mut file = file;
+    if from > 0 {
+        file.seek(SeekFrom::Start(from))?;
+    }
+    Ok(Reading {
+        file,
+        path,
+        place: from,
+    })
+}
+
+/// The file that is being read, where it has the path and its next piece begins at the place.
+pub(crate) fn going_on<F: Drop>(
+    reading: Option<Reading<F>>,
+    path: &str,
+    from: u64,
+) -> Option<Reading<F>>
+    ensures path { IfSome result (λ reading. string_bytes reading.path ≡ path.now) }
+    ensures place { IfSome result (λ reading. reading.place ≡ from) }
+{
+    let reading = reading?;
+    if reading.place == from && reading.path.as_str() == path {
+        Some(reading)
+    } else {
+        None
+    }
+}
+
+/// The next piece of a file, and the file itself where the piece is full.
+pub(crate) fn read_on<F: Read + Drop>(
+    alloc: Global,
+    reading: Reading<F>,
+) -> io::Result<(Piece, Option<Reading<F>>)>
+    ensures range { IfOk result (λ read. EndsInRange reading.place read.0) }
+{
+    let Reading {
+        mut file,
+        path,
+        place,
+    } = reading;
+    let piece = next_piece(alloc, &mut file)?;
+    let place = end_of(place, &piece)?;
+    if piece.bytes().len() < PIECE {
+        return Ok((piece, None));
+    }
+    Ok((piece, Some(Reading { file, path, place })))
 }

@@ -3,18 +3,22 @@ use med_base::Fingerprint;
 use std::alloc::Global;
 use std::collections::BTreeMap;
 use std::fs::Metadata;
-use std::mem;
+use std::io::ErrorKind;
 use std::os::unix::fs::MetadataExt;
+use std::time::{Clock, SystemTime, UNIX_EPOCH};
+use std::{io, mem};
 
 // Past twice as many the oldest half is forgotten.
 const HALF: usize = 500_000;
 
-// The fingerprint of a file, and when it was modified and changed, in nanoseconds since 1970.
+// The fingerprint of a file, when it was modified, and the two moments between which it was changed
+// last, in nanoseconds since 1970.
 #[derive(Clone, Copy)]
 struct Print {
     fingerprint: Fingerprint,
     modified: u64,
-    changed: u64,
+    changed_from: u64,
+    changed_until: u64,
 }
 
 // Nanoseconds since 1970. Two times of the years 1970 to 2500 have two numbers.
@@ -34,9 +38,22 @@ fn changed(metadata: &Metadata) -> u64 {
 }
 
 fn is_unchanged(print: &Print, metadata: &Metadata) -> bool {
+    let changed = changed(metadata);
     print.fingerprint.size == metadata.len()
         && print.modified == modified(metadata)
-        && print.changed == changed(metadata)
+        && print.changed_from <= changed
+        && changed <= print.changed_until
+}
+
+// The nanoseconds since 1970 that the clock gives.
+fn clock_nanoseconds(clock: &impl Clock) -> io::Result<u64> {
+    match SystemTime::now(clock)?.duration_since(UNIX_EPOCH) {
+        Ok(since) => Ok(nanoseconds(
+            since.as_secs().cast_signed(),
+            i64::from(since.subsec_nanos()),
+        )),
+        Err(_) => Err(io::Error::from(ErrorKind::InvalidData)),
+    }
 }
 
 /// The fingerprints of files of one device, by their inodes.
@@ -86,6 +103,32 @@ impl Prints {
     /// Notes the fingerprint of a file that was as the metadata say. Where there is no memory for
     /// it, it isn't noted.
     pub(crate) fn note(&mut self, alloc: Global, metadata: &Metadata, fingerprint: Fingerprint) {
+        self.note_until(alloc, metadata, fingerprint, changed(metadata));
+    }
+
+    /// The same of a file that was renamed since, which changed it for the last time: the system is
+    /// asked for the moment, and not for the file. Where the clock can't be read, it isn't noted.
+    pub(crate) fn note_renamed(
+        &mut self,
+        clock: &impl Clock,
+        alloc: Global,
+        metadata: &Metadata,
+        fingerprint: Fingerprint,
+    ) {
+        match clock_nanoseconds(clock) {
+            Ok(until) => self.note_until(alloc, metadata, fingerprint, until),
+            Err(_) => self.forget(metadata),
+        }
+    }
+
+    // The same of a file that was changed for the last time at that moment at the latest.
+    fn note_until(
+        &mut self,
+        alloc: Global,
+        metadata: &Metadata,
+        fingerprint: Fingerprint,
+        until: u64,
+    ) {
         self.forget(metadata);
         if metadata.dev() != self.device {
             self.device = metadata.dev();
@@ -98,7 +141,8 @@ impl Prints {
         let print = Print {
             fingerprint,
             modified: modified(metadata),
-            changed: changed(metadata),
+            changed_from: changed(metadata),
+            changed_until: until,
         };
         let _ = self.newer.insert(metadata.ino(), print);
     }

@@ -8,16 +8,17 @@ ghost use Rattle.med_folder.specs.Snapshots.{file_path};
 ghost use Rattle.med_folder.specs.Untold.{untold_snap};
 
 use crate::faults::counted;
-use crate::files::{is_plain_way, open_plain, read_plain};
+use crate::files::{open_plain, read_plain};
 use crate::keys::{keys_of_node, table_folder};
 use crate::paths::{has_plain_parts, is_name, joined, parent_of};
-use crate::pieces::{end_of, next_piece};
+use crate::pieces::{Reading, going_on, read_on, reading_from};
+use crate::ways::{Ways, check_plain};
 use med_base::FileKey;
-use med_outside::{Denied, OpenedFor, PIECE, Piece, RawKey, Snap};
+use med_outside::{Denied, OpenedFor, Piece, RawKey, Snap};
 use std::alloc::{AllocError, Global};
 use std::fs::Files;
 use std::io;
-use std::io::{ErrorKind, Read, Seek, SeekFrom};
+use std::io::ErrorKind;
 use std::marker::Model;
 
 /// Where the snapshot of a node lies: the folder of the node, and the tag.
@@ -56,16 +57,7 @@ pub struct FolderSnap<R: Files> {
     opened: OpenedFor,
     faults: u64,
     reading: Option<Reading<R::File>>,
-    seen: Option<String>,
-}
-
-/// A file of a snapshot that is read piece by piece: its path below the folder of data, and where
-/// its next piece begins.
-#[derive(Drop)]
-struct Reading<F> {
-    file: F,
-    path: String,
-    place: u64,
+    walked: Walked,
 }
 
 impl<R: Files> Model for FolderSnap<R> {
@@ -77,7 +69,7 @@ impl<R: Files> Model for FolderSnap<R> {
 }
 
 impl<R: Files> FolderSnap<R> {
-    pub(crate) fn new(folder: NodeFolder<R>, opened: OpenedFor) -> FolderSnap<R>
+    pub(crate) fn new(alloc: Global, folder: NodeFolder<R>, opened: OpenedFor) -> FolderSnap<R>
         ensures { result ≡ record { faults = 0; of = opened } }
     {
         FolderSnap {
@@ -85,7 +77,10 @@ impl<R: Files> FolderSnap<R> {
             opened,
             faults: 0,
             reading: None,
-            seen: None,
+            walked: Walked {
+                ways: Ways::none(alloc),
+                last: None,
+            },
         }
     }
 
@@ -120,35 +115,40 @@ fn path_of(alloc: Global, tag: &str, key: &FileKey) -> Result<String, AllocError
     joined(alloc, folder.as_str(), file)
 }
 
-// Whether a folder is the one that was seen last.
-fn is_seen(seen: Option<&String>, folder: &str) -> bool {
-    match seen {
-        Some(last) => last.as_str() == folder,
-        None => false,
+/// The folders of a snapshot to which a plain way was found, and the one in which the file lay that
+/// was opened last.
+#[derive(Drop)]
+struct Walked {
+    ways: Ways,
+    last: Option<String>,
+}
+
+impl Walked {
+    fn is_last(&self, folder: &str) -> bool {
+        match &self.last {
+            Some(last) => last.as_str() == folder,
+            None => false,
+        }
     }
 }
 
-// The plain file below a folder, which its path doesn't leave, opened at a place. The way to its own
-// folder is looked at where the last file that was opened lay in another one.
+// The plain file below a folder, which its path doesn't leave. The way to its own folder is looked
+// at where the last file that was opened lay in another one.
 fn open_below<R: Files>(
     rt: &R,
     alloc: Global,
     top: &str,
     path: &str,
-    from: u64,
-    seen: &mut Option<String>,
+    walked: &mut Walked,
 ) -> io::Result<R::File> {
     let folder = parent_of(path);
-    let is_seen = is_seen(seen.as_ref(), folder);
-    if !is_seen && !is_plain_way(rt, alloc, top, folder)? {
-        return Err(io::Error::from(ErrorKind::InvalidFilename));
+    let is_last = walked.is_last(folder);
+    if !is_last {
+        check_plain(walked.ways.find(rt, alloc, top, folder)?)?;
     }
-    let mut file = open_plain(rt, joined(alloc, top, path)?.as_str())?;
-    if from > 0 {
-        file.seek(SeekFrom::Start(from))?;
-    }
-    if !is_seen {
-        *seen = Some(String::from_str(alloc, folder)?);
+    let file = open_plain(rt, joined(alloc, top, path)?.as_str())?;
+    if !is_last {
+        walked.last = Some(String::from_str(alloc, folder)?);
     }
     Ok(file)
 }
@@ -161,7 +161,7 @@ fn reading_at<R: Files>(
     reading: Option<Reading<R::File>>,
     key: &FileKey,
     from: u64,
-    seen: &mut Option<String>,
+    walked: &mut Walked,
 ) -> io::Result<Reading<R::File>>
     ensures names { OnOk result
         (list_all is_name (parts (file_path (string_bytes folder.now.tag) key.now)) ≡ true) }
@@ -174,38 +174,12 @@ fn reading_at<R: Files>(
     if !has_plain_parts(path.as_bytes()) {
         return Err(io::Error::from(ErrorKind::InvalidFilename));
     }
-    if let Some(reading) = reading {
-        if reading.place == from && reading.path.as_str() == path.as_str() {
-            return Ok(reading);
-        }
+    if let Some(reading) = going_on(reading, path.as_str(), from) {
+        return Ok(reading);
     }
     let data = joined(alloc, folder.node.as_str(), "data")?;
-    let file = open_below(&folder.rt, alloc, data.as_str(), path.as_str(), from, seen)?;
-    Ok(Reading {
-        file,
-        path,
-        place: from,
-    })
-}
-
-// The next piece of a file, and the file itself where it goes on.
-fn read_on<F: Read + Drop>(
-    alloc: Global,
-    reading: Reading<F>,
-) -> io::Result<(Piece, Option<Reading<F>>)>
-    ensures range { IfOk result (λ read. EndsInRange reading.place read.0) }
-{
-    let Reading {
-        mut file,
-        path,
-        place,
-    } = reading;
-    let piece = next_piece(alloc, &mut file)?;
-    let place = end_of(place, &piece)?;
-    if piece.bytes().len() < PIECE {
-        return Ok((piece, None));
-    }
-    Ok((piece, Some(Reading { file, path, place })))
+    let file = open_below(&folder.rt, alloc, data.as_str(), path.as_str(), walked)?;
+    reading_from(file, path, from)
 }
 
 fn read_key<R: Files>(
@@ -214,13 +188,16 @@ fn read_key<R: Files>(
     reading: Option<Reading<R::File>>,
     key: &FileKey,
     from: u64,
-    seen: &mut Option<String>,
+    walked: &mut Walked,
 ) -> io::Result<(Piece, Option<Reading<R::File>>)>
     ensures names { OnOk result
         (list_all is_name (parts (file_path (string_bytes folder.now.tag) key.now)) ≡ true) }
     ensures range { IfOk result (λ read. EndsInRange from read.0) }
 {
-    read_on(alloc, reading_at(folder, alloc, reading, key, from, seen)?)
+    read_on(
+        alloc,
+        reading_at(folder, alloc, reading, key, from, walked)?,
+    )
 }
 
 // The bytes of a file in the folder of the node.
@@ -239,7 +216,8 @@ impl<R: Files + AllocGlobal + Clone + Drop> Snap for FolderSnap<R> {
     fn keys(&mut self, alloc: Global) -> Result<Vec<RawKey>, Denied> {
         self.reading = None;
         let folder = &self.folder;
-        let outcome = keys_of_node(&folder.rt, alloc, folder.node.as_str(), folder.tag.as_str());
+        let (node, tag) = (folder.node.as_str(), folder.tag.as_str());
+        let outcome = keys_of_node(&folder.rt, alloc, node, tag, &mut self.walked.ways);
         counted(&mut self.faults, outcome)
     }
 
@@ -248,7 +226,7 @@ impl<R: Files + AllocGlobal + Clone + Drop> Snap for FolderSnap<R> {
     /// looked at where the file that was opened last lay in another one.
     fn read_piece(&mut self, alloc: Global, key: &FileKey, from: u64) -> Result<Piece, Denied> {
         let reading = self.reading.take();
-        let outcome = read_key(&self.folder, alloc, reading, key, from, &mut self.seen);
+        let outcome = read_key(&self.folder, alloc, reading, key, from, &mut self.walked);
         let (piece, reading) = counted(&mut self.faults, outcome)?;
         self.reading = reading;
         Ok(piece)

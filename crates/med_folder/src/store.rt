@@ -15,6 +15,7 @@ use crate::files::{make_folders, sync_way};
 use crate::locks::Change;
 use crate::pages::page_behind;
 use crate::paths::{UNFINISHED, joined};
+use crate::pieces::Reading;
 use crate::seconds::second_or;
 use crate::tree::Tree;
 use crate::uploads::Unfinished;
@@ -42,6 +43,7 @@ pub struct FolderStore<R> {
     last: u64,
     faults: u64,
     upload: Option<Unfinished>,
+    reading: Option<Reading<File>>,
 }
 
 impl<R> Model for FolderStore<R> {
@@ -78,6 +80,7 @@ impl<R> FolderStore<R> {
             last: 0,
             faults: 0,
             upload: None,
+            reading: None,
         }
     }
 }
@@ -127,6 +130,7 @@ impl<R: Files<File = File> + Clock + AllocGlobal + Clone + Drop> Storage for Fol
         bucket: &str,
         prefix: &Layout,
     ) -> Result<(), Denied> {
+        self.reading = None;
         let layout = prefix.copy(alloc)?;
         let base_text = String::from_str(alloc, base)?;
         let bucket_text = String::from_str(alloc, bucket)?;
@@ -180,6 +184,7 @@ impl<R: Files<File = File> + Clock + AllocGlobal + Clone + Drop> Storage for Fol
         ensures called { IsCalled (untold self.old) (untold self.new) result }
         ensures place { OnOk result (is_object_path path.now ≡ true) }
     {
+        self.reading = None;
         let second = self.now();
         let change = Change {
             owner: owner_of(&self.layout, path),
@@ -206,6 +211,7 @@ impl<R: Files<File = File> + Clock + AllocGlobal + Clone + Drop> Storage for Fol
         ensures called { IsCalled (untold self.old) (untold self.new) result }
         ensures place { OnOk result (is_object_path path.now ≡ true) }
     {
+        self.reading = None;
         let change = Change {
             owner: owner_of(&self.layout, path),
             is_meanwhile: self.upload.is_some(),
@@ -243,7 +249,9 @@ impl<R: Files<File = File> + Clock + AllocGlobal + Clone + Drop> Storage for Fol
         Ok(())
     }
 
-    /// As the trait says, with the faults of `stat`. The file is opened anew for each piece.
+    /// As the trait says, with the faults of `stat`. The file stays open behind a full piece: the
+    /// next piece of the same object from there on is read from it. A piece from elsewhere closes
+    /// it, and so do `open`, `put`, `delete` and `commit`.
     fn get_piece(
         &mut self,
         alloc: Global,
@@ -256,9 +264,16 @@ impl<R: Files<File = File> + Clock + AllocGlobal + Clone + Drop> Storage for Fol
         ensures called { IsCalled (untold self.old) (untold self.new) result }
         ensures place { OnOk result (is_object_path path.now ≡ true) }
     {
+        let reading = self.reading.take();
         let bucket = self.folder.as_str();
-        let outcome = self.tree.piece(alloc, bucket, path.as_str(), from);
-        counted(&mut self.faults, outcome)
+        let outcome = self.tree.piece(alloc, bucket, reading, path.as_str(), from);
+        match counted(&mut self.faults, outcome)? {
+            Some((piece, reading)) => {
+                self.reading = reading;
+                Ok(Some(piece))
+            }
+            None => Ok(None),
+        }
     }
 
     /// As the trait says, with the faults of `put`.
@@ -309,6 +324,7 @@ impl<R: Files<File = File> + Clock + AllocGlobal + Clone + Drop> Storage for Fol
             → ChangesOnce [] (with_upload None (untold self.old)) (untold self.new) never never }
         ensures called { IsCalled (untold self.old) (untold self.new) result }
     {
+        self.reading = None;
         let second = self.now();
         let upload = self.upload.take();
         let outcome = self

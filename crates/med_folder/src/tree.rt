@@ -4,7 +4,7 @@ use crate::locks::{Change, Locks};
 use crate::paths::{UNFINISHED, joined, parent_of};
 use crate::prints::Prints;
 use crate::waiting::Waiting;
-use crate::ways::{Way, Ways};
+use crate::ways::{Way, Ways, check_plain};
 use std::alloc::Global;
 use std::fs::{File, Files, Metadata};
 use std::io::ErrorKind;
@@ -19,13 +19,6 @@ pub(crate) struct Tree<R> {
     pub(crate) waiting: Waiting,
     pub(crate) ways: Ways,
     pub(crate) prints: Prints,
-}
-
-fn check_plain(way: Way) -> io::Result<()> {
-    match way {
-        Way::Plain => Ok(()),
-        Way::Broken | Way::Linked => Err(io::Error::from(ErrorKind::InvalidFilename)),
-    }
 }
 
 impl<R> Tree<R> {

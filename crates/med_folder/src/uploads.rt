@@ -7,12 +7,13 @@ use crate::files::{create_anew, remove_there, settle};
 use crate::locks::{Change, part_place};
 use crate::objects::place_of;
 use crate::tree::Tree;
-use med_base::{Fingerprint, Flow};
+use med_base::Flow;
 use std::alloc::Global;
-use std::fs::{File, Files};
+use std::fs::{File, Files, Metadata};
+use std::io;
 use std::io::{ErrorKind, Write};
 use std::marker::Model;
-use std::{fs, io};
+use std::time::Clock;
 
 /// A file in the folder of unfinished files that is being written, and the path of the object that
 /// it becomes.
@@ -98,29 +99,26 @@ impl<R: Files<File = File>> Tree<R> {
         }
     }
 
-    // Moves a file that was written to its place. It and its folders wait from before that on, so
-    // that nothing is moved that doesn't wait.
+    // Moves a file of so many bytes to its place, and answers what the system told of it before. It
+    // and its folders wait from before that on, so that nothing is moved that doesn't wait.
     fn take_place(
         &mut self,
         alloc: Global,
         bucket: &str,
-        path: &str,
-        part: &str,
+        upload: (&str, &str, u64),
         file: File,
-    ) -> io::Result<String> {
+        second: u64,
+    ) -> io::Result<Metadata> {
+        let (path, part, size) = upload;
+        let metadata = settle(&file, size, second)?;
         let place = place_of(alloc, bucket, path)?;
         self.waiting.add(alloc, file, bucket, place.as_str())?;
         self.move_in(alloc, bucket, path, part, place.as_str())?;
-        Ok(place)
+        Ok(metadata)
     }
+}
 
-    // Notes the fingerprint of what was stored, where the system tells of the file.
-    fn note_stored(&mut self, alloc: Global, place: &str, fingerprint: Fingerprint) {
-        if let Ok(metadata) = fs::symlink_metadata(&self.rt, place) {
-            self.prints.note(alloc, &metadata, fingerprint);
-        }
-    }
-
+impl<R: Files<File = File> + Clock> Tree<R> {
     /// Makes an upload an object. Where there is no upload, or its file hasn't as many bytes as
     /// were appended, it refuses. After a refusal the file is given up. Where many files wait, the
     /// system keeps them.
@@ -140,12 +138,12 @@ impl<R: Files<File = File>> Tree<R> {
             path,
             flow,
         } = upload;
-        let outcome = match settle(&file, flow.size(), second) {
-            Ok(_) => self.take_place(alloc, bucket, path.as_str(), part.as_str(), file),
-            Err(error) => Err(error),
-        };
-        match outcome {
-            Ok(place) => self.note_stored(alloc, place.as_str(), flow.end()),
+        let whole = (path.as_str(), part.as_str(), flow.size());
+        match self.take_place(alloc, bucket, whole, file, second) {
+            Ok(metadata) => {
+                self.prints
+                    .note_renamed(&self.rt, alloc, &metadata, flow.end());
+            }
             Err(error) => {
                 let _ = remove_there(&self.rt, part.as_str());
                 return Err(error);

@@ -5,6 +5,7 @@ use crate::paths::{joined, parent_of};
 use std::alloc::Global;
 use std::collections::BTreeMap;
 use std::fs::{Files, Metadata};
+use std::io::ErrorKind;
 use std::os::unix::fs::MetadataExt;
 use std::{fs, io};
 
@@ -33,6 +34,14 @@ pub(crate) enum Way {
     Linked,
 }
 
+/// Refuses a way that isn't plain.
+pub(crate) fn check_plain(way: Way) -> io::Result<()> {
+    match way {
+        Way::Plain => Ok(()),
+        Way::Broken | Way::Linked => Err(io::Error::from(ErrorKind::InvalidFilename)),
+    }
+}
+
 /// The folders to which a plain way was found in this run.
 #[derive(Drop)]
 pub(crate) struct Ways {
@@ -44,6 +53,18 @@ impl Ways {
         Ways {
             seen: BTreeMap::new(alloc),
         }
+    }
+
+    /// Notes a folder to which a plain way was found.
+    pub(crate) fn note(
+        &mut self,
+        alloc: Global,
+        folder: &str,
+        metadata: &Metadata,
+    ) -> io::Result<()> {
+        let key = String::from_str(alloc, folder)?;
+        self.seen.insert(key, identity_of(metadata))?;
+        Ok(())
     }
 
     // Whether a plain way to the folder was found, and it is the same folder still.
@@ -62,8 +83,7 @@ impl Ways {
     fn look<R: Files>(&mut self, rt: &R, alloc: Global, folder: &str) -> io::Result<Way> {
         match fs::symlink_metadata(rt, folder) {
             Ok(metadata) if metadata.is_dir() => {
-                let key = String::from_str(alloc, folder)?;
-                self.seen.insert(key, identity_of(&metadata))?;
+                self.note(alloc, folder, &metadata)?;
                 Ok(Way::Plain)
             }
             Ok(metadata) if metadata.is_symlink() => Ok(Way::Linked),
@@ -87,6 +107,14 @@ impl Ways {
                 self.look(rt, alloc, folder)
             }
             way => Ok(way),
+        }
+    }
+
+    // Makes a folder, the way to whose parent is plain, and looks at what is there then.
+    fn make_below<R: Files>(&mut self, rt: &R, alloc: Global, folder: &str) -> io::Result<Way> {
+        match make_folder(rt, folder) {
+            Err(error) if error.kind() != ErrorKind::AlreadyExists => Err(error),
+            _ => self.look(rt, alloc, folder),
         }
     }
 
@@ -125,10 +153,14 @@ impl Ways {
         if self.is_as_seen(rt, at.as_str())? {
             return Ok(Way::Plain);
         }
-        if self.is_as_seen(rt, parent_of(at.as_str()))? {
-            return self.step(rt, alloc, at.as_str(), makes);
+        if !self.is_as_seen(rt, parent_of(at.as_str()))? {
+            return self.walk(rt, alloc, top, folder, makes);
         }
-        self.walk(rt, alloc, top, folder, makes)
+        if makes {
+            self.make_below(rt, alloc, at.as_str())
+        } else {
+            self.look(rt, alloc, at.as_str())
+        }
     }
 
     /// The way from `top` down to a folder below it.

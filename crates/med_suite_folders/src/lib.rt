@@ -8,6 +8,8 @@
 #[cfg(test)]
 mod file_pieces;
 #[cfg(test)]
+mod object_pieces;
+#[cfg(test)]
 mod objects;
 #[cfg(test)]
 mod pages;
