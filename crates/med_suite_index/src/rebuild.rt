@@ -126,7 +126,12 @@ fn a_manifest_that_does_not_read_ends_it_before_a_change(rt: HostRuntime) {
     let mut store = MemStore::new(rt.alloc(), 1000, 1);
     assert_eq!(rt; first_wrong(rt.alloc(), &mut store, BAD), None);
     assert_eq!(rt;
-        is_rebuilt(rt.alloc(), &mut store, "n1", "bad n1/b-1/meta/manifest.json"),
+        is_rebuilt(
+            rt.alloc(),
+            &mut store,
+            "n1",
+            "bad n1/b-1/meta/manifest.json"
+        ),
         Some(true)
     );
     assert_eq!(rt; first_wrong(rt.alloc(), &mut store, KEPT), None);
