@@ -141,7 +141,7 @@ fn a_manifest_that_does_not_read_ends_it_before_a_change(rt: HostRuntime) {
 fn is_mended(alloc: Global, call: u64, lands: bool, wanted: &str) -> Result<bool, NoMemory> {
     let mut store = MemStore::new(alloc, 1000, 1);
     let laid = first_wrong(alloc, &mut store, BUCKET).is_none();
-    store.fail(MemWhen::Step(LAID + call), lands)?;
+    store.fail(MemWhen::Step(LAID.saturating_add(call)), lands)?;
     let told = is_rebuilt(alloc, &mut store, "n1", wanted);
     let mended = rebuilt(alloc, &mut store, "n1").is_some();
     let right = first_wrong(alloc, &mut store, BYTES).is_none();
@@ -171,7 +171,12 @@ fn what_a_fault_left_is_mended(rt: HostRuntime) {
         first_fault_unmended(rt.alloc(), CALLS, true).ok(),
         Some(None)
     );
-    let whole = is_mended(rt.alloc(), CALLS + 1, false, "8 put, 2 deleted");
+    let whole = is_mended(
+        rt.alloc(),
+        CALLS.saturating_add(1),
+        false,
+        "8 put, 2 deleted",
+    );
     assert_eq!(rt; whole.ok(), Some(true));
 }
 

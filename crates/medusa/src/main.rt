@@ -4,12 +4,11 @@
 use med_commands::{medusa_main, tell_no_memory};
 use med_folder::{FolderNodes, FolderStore, RealFiles, RealSink};
 use std::alloc::AllocError;
-use std::env;
 use std::env::Env;
 use std::fs::{File, Files};
-use std::io;
 use std::io::ErrorKind;
 use std::process::ExitCode;
+use std::{env, io};
 
 // The words after the program's name. Where one is no UTF-8 there are none, which is refused as a
 // faulty command line.
