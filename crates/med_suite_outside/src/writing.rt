@@ -190,6 +190,7 @@ fn an_opening_removes_nothing_and_a_change_what_is_in_its_way(rt: HostRuntime) {
 const NOTED: &str = "\
 one open writing/s => done
 one upload n1/files/ks/t/a=abc => done
+one stat n1/files/ks/t/a => abc
 letter a
 one stat n1/files/ks/t/a => abc
 one get n1/files/ks/t/a => failed
@@ -209,6 +210,7 @@ one stat n1/files/ks/t/a =>
 one delete n1/files/ks/t/a => done
 one stat n1/files/ks/t/a => absent
 one upload n1/files/ks/t/b=abc => done
+one stat n1/files/ks/t/b => abc
 letter b
 one stat n1/files/ks/t/b => abc
 file writing/s/n1/files/ks/t/b=abcd
