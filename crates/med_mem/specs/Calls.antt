@@ -1,5 +1,5 @@
 -- What the calls of a store in memory leave.
-use Rattle.std.specs.Prelude.{◌≡◌, ◌+◌, ◌-◌, ◌^◌, ℕ, min, max, Bool, true, false, List, [], ◌∷◌, ◌++◌, Option, Some, None, Result, Ok, Err, IsErr, IsErrOf, IsTrue, is_some}
+use Rattle.std.specs.Prelude.{◌≡◌, ◌<◌, ◌+◌, ◌-◌, ◌^◌, ℕ, min, max, Bool, true, false, List, [], ◌∷◌, ◌++◌, Option, Some, None, Result, Ok, Err, IsErr, IsErrOf, IsTrue, is_some}
 use Rattle.med_base.specs.Content.{with_object}
 use Rattle.med_outside.specs.Causes.{one_more}
 use Rattle.med_outside.specs.declared.denied.Denied.{Denied}
@@ -9,6 +9,7 @@ use Rattle.med_outside.specs.State.{OnlyReads, Upload, bucket_of, opened}
 use Rattle.med_outside.specs.Storage.{Put, Delete}
 use Rattle.med_mem.specs.declared.faults.MemWhen.{MemWhen}
 use Rattle.med_mem.specs.declared.faults.MemFault.{MemFault}
+use Rattle.med_mem.specs.Faults.{due_put, after_put}
 use Rattle.med_mem.specs.Told.{Note, Told, content_of, stood_of, state_of}
 
 -- a change that was made when so many calls had been made
@@ -150,6 +151,12 @@ Leaves done kept (Some true) Memory = kept
 Leaves done kept (Some false) denied = kept
 Leaves done kept None denied = kept
 
+-- the same of a put: the second that it was stored with has 64 bits
+abbrev pub LeavesPut : (path bytes : List ℕ) → (old new : Told) → Denied → Type 0
+LeavesPut path bytes old new denied =
+    Leaves ((old.clock < 2 ^ 64) × IsPut path bytes old new old.clock) (Stays old new)
+    (due_put old.calls path old.to_fail) denied
+
 -- the clock went on by one tick, up to the last value of a 64-bit counter
 pub record Ticks (old new : Told) : Type 0 where
   pub clock : new.clock ≡ min (old.clock + old.tick) (2 ^ 64 - 1)
@@ -159,3 +166,13 @@ pub record Ticks (old new : Told) : Type 0 where
 pub record Rests (old new : Told) : Type 0 where
   pub clock : new.clock ≡ old.clock
   pub tick : new.tick ≡ old.tick
+
+-- the clock went on where a put that was refused took effect, and else it stands
+abbrev pub TicksOrRests : List ℕ → (old new : Told) → Denied → Type 0
+TicksOrRests path old new denied =
+    Leaves (Ticks old new) (Rests old new) (due_put old.calls path old.to_fail) denied
+
+-- a put was counted, and so was its failure
+abbrev pub CountsPut : {T : Type 0} → List ℕ → (old new : Told) → Result T Denied → Type 0
+CountsPut path old new result =
+    Counts (due_put old.calls path old.to_fail) (after_put path old.to_fail) old new result

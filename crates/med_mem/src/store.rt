@@ -2,24 +2,26 @@
 ghost use Rattle.std.specs.Prelude.{◌≡◌, Some, None, is_some, IsTrue, IfOk, IfErr, IfSome, OnOk, OnErr, IsErrOf, option_map, string_bytes};
 ghost use Rattle.std.specs.FinMap.{entries, get};
 ghost use Rattle.med_base.specs.Content.{Object};
+ghost use Rattle.med_base.specs.Fingerprint.{fingerprint_of};
 ghost use Rattle.med_outside.specs.Causes.{HasCause};
 ghost use Rattle.med_outside.specs.Pages.{CountsDown, CountsRight, IsPage, shown};
 ghost use Rattle.med_outside.specs.Pieces.{begun, piece_at, with_piece, EndsInRange};
+ghost use Rattle.med_outside.specs.State.{Upload};
 ghost use Rattle.med_outside.specs.Storage.{stat_of};
 ghost use Rattle.med_outside.specs.declared.denied.Denied.TheVariants.{Memory};
 ghost use Rattle.med_mem.specs.Objects.{pairs, room_after};
 ghost use Rattle.med_mem.specs.Told.{content_of};
-ghost use Rattle.med_mem.specs.Calls.{new_at, Gains, with_added, with_clock, with_room_for, with_fault, uploading, IsOpened, IsPut, IsDeleted, Counts, Stays, Leaves, Ticks, Rests};
-ghost use Rattle.med_mem.specs.Faults.{due_look, due_other, due_put, after_put};
+ghost use Rattle.med_mem.specs.Calls.{new_at, Gains, with_added, with_clock, with_room_for, with_fault, uploading, IsOpened, IsPut, IsDeleted, Counts, CountsPut, Stays, Leaves, LeavesPut, Ticks, TicksOrRests, Rests};
+ghost use Rattle.med_mem.specs.Faults.{due_look, due_other};
 
 use crate::faults::{begin_delete, begin_look, begin_put};
 use crate::object::{
     Change, copy_bytes, copy_objects, copy_piece, put_object, remove_object, stat_object,
 };
 use crate::page::page_under;
-use crate::upload::{MemUpload, begin_upload, grow_upload};
+use crate::upload::{MemUpload, begin_upload, grow_upload, print_of};
 use crate::{MemFault, MemObject, MemWhen};
-use med_base::{Layout, NoMemory, ObjPath};
+use med_base::{Fingerprint, Layout, NoMemory, ObjPath};
 use med_outside::{Denied, Page, PageEnd, Piece, Stat, Storage};
 use std::alloc::Global;
 use std::marker::Model;
@@ -242,15 +244,10 @@ impl Storage for MemStore {
 
     fn put(&mut self, alloc: Global, path: &ObjPath, bytes: &[u8]) -> Result<u64, Denied>
         ensures ok { IfOk result (IsPut path.now bytes.now self.old self.new) }
-        ensures err { IfErr result
-            (Leaves (IsPut path.now bytes.now self.old self.new self.old.clock)
-            (Stays self.old self.new) (due_put self.old.calls path.now self.old.to_fail)) }
+        ensures err { IfErr result (LeavesPut path.now bytes.now self.old self.new) }
         ensures ticks { OnOk result (Ticks self.old self.new) }
-        ensures rests { IfErr result
-            (Leaves (Ticks self.old self.new) (Rests self.old self.new)
-            (due_put self.old.calls path.now self.old.to_fail)) }
-        ensures counts { Counts (due_put self.old.calls path.now self.old.to_fail)
-            (after_put path.now self.old.to_fail) self.old self.new result }
+        ensures rests { IfErr result (TicksOrRests path.now self.old self.new) }
+        ensures counts { CountsPut path.now self.old self.new result }
         ensures cause { HasCause self.old.faults self.new.faults result }
     {
         let fails = begin_put(
@@ -376,21 +373,26 @@ impl Storage for MemStore {
         Ok(())
     }
 
+    fn uploaded(&mut self) -> Option<Fingerprint>
+        ensures answer { result
+            ≡ option_map (λ (u : Upload). fingerprint_of u.bytes) self.old.upload }
+        ensures same { self.new ≡ self.old }
+        ensures looks { Stays self.old self.new }
+    {
+        print_of(&self.upload)
+    }
+
     fn commit(&mut self, alloc: Global) -> Result<u64, Denied>
         requires { IsTrue (is_some self.old.upload) }
         ensures ok { IfOk result (λ second. IfSome self.old.upload
             (λ u. IsPut u.path u.bytes (uploading None self.old) self.new second)) }
-        ensures err { IfSome self.old.upload (λ u. IfErr result
-            (Leaves (IsPut u.path u.bytes (uploading None self.old) self.new self.old.clock)
-            (Stays (uploading None self.old) self.new)
-            (due_put self.old.calls u.path self.old.to_fail))) }
+        ensures err { IfSome self.old.upload
+            (λ u. IfErr result (LeavesPut u.path u.bytes (uploading None self.old) self.new)) }
         ensures ticks { OnOk result (Ticks self.old self.new) }
-        ensures rests { IfSome self.old.upload (λ u. IfErr result
-            (Leaves (Ticks self.old self.new) (Rests self.old self.new)
-            (due_put self.old.calls u.path self.old.to_fail))) }
+        ensures rests { IfSome self.old.upload
+            (λ u. IfErr result (TicksOrRests u.path self.old self.new)) }
         ensures counts { IfSome self.old.upload
-            (λ u. Counts (due_put self.old.calls u.path self.old.to_fail)
-            (after_put u.path self.old.to_fail) self.old self.new result) }
+            (λ u. CountsPut u.path self.old self.new result) }
         ensures cause { HasCause self.old.faults self.new.faults result }
     {
         match self.upload.take() {

@@ -1,9 +1,11 @@
 // Uploads to a storage in memory.
-ghost use Rattle.std.specs.Prelude.{◌≡◌, Some, IfOk};
+ghost use Rattle.std.specs.Prelude.{◌≡◌, Some, IfOk, option_map};
+ghost use Rattle.med_base.specs.Fingerprint.{fingerprint_of};
 ghost use Rattle.med_outside.specs.Pieces.{begun, with_piece};
+ghost use Rattle.med_outside.specs.State.{Upload};
 ghost use Rattle.med_mem.specs.Uploads.{upload_of};
 
-use med_base::{NoMemory, ObjPath};
+use med_base::{Fingerprint, NoMemory, ObjPath};
 use med_outside::Piece;
 use std::alloc::Global;
 
@@ -38,5 +40,16 @@ pub(crate) fn grow_upload(
             Ok(Some(upload))
         }
         None => Ok(None),
+    }
+}
+
+/// The fingerprint of the bytes so far, if there is an upload.
+pub(crate) fn print_of(upload: &Option<MemUpload>) -> Option<Fingerprint>
+    ensures { result
+        ≡ option_map (λ (u : Upload). fingerprint_of u.bytes) (upload_of upload.now) }
+{
+    match upload {
+        Some(upload) => Some(Fingerprint::of(upload.bytes.as_slice())),
+        None => None,
     }
 }

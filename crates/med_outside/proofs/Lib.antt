@@ -1,3 +1,5 @@
+pub mod Answered
+pub mod Committing
 pub mod EndsLemmas
 pub mod Making
 pub mod Moments
@@ -5,3 +7,4 @@ pub mod OpenPlaces
 pub mod Paging
 pub mod Passing
 pub mod Recording
+pub mod Sending

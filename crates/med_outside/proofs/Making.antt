@@ -1,5 +1,5 @@
 -- Calls in a row that change a storage: which list they make together.
-use Rattle.std.proofs.Common.{◌≡◌, ◌⊎◌, inl, inr, ◌≤◌, ◌+◌, ℕ, Bool, true, false, List, [], ◌∷◌, ◌++◌, map, Option, Some, None, Result, Ok, Err, IsOk, refl, sym, ap, ◌∙◌, arith, append_assoc, append-nil, subst}
+use Rattle.std.proofs.Common.{◌≡◌, ◌⊎◌, inl, inr, ◌≤◌, ◌<◌, ◌+◌, ◌^◌, ℕ, Bool, true, false, List, [], ◌∷◌, ◌++◌, map, Option, Some, None, Result, Ok, Err, IsOk, refl, sym, ap, ◌∙◌, arith, append_assoc, append-nil, subst}
 use Rattle.med_base.specs.Effects.{Effect, Stores, Removes, after_all}
 use Rattle.med_outside.specs.State.{State, ChangesWithin, ChangesOnce, History}
 use Rattle.med_outside.specs.Storage.{Put, MayPut, Delete, MayDelete}
@@ -149,11 +149,19 @@ module _ (fine fault : Type 0) (s0 s1 : State) (p0 p1 : History) (t0 t1 : Trace)
       → ((at : ℕ) → t1.changes.items
       ≡ t0.changes.items ++ seen_unsure s0.terms.bucket.layout (Stores path bytes at) ∷ [])
       → t1.unsure ≡ true → MayPut path bytes s0 s1 p0 p1
-      → (at : ℕ) × Makes fine fault (Stores path bytes at ∷ []) s0 s1 p0 p1 t0 t1
+      → (at : ℕ) × (at < 2 ^ 64)
+      × Makes fine fault (Stores path bytes at ∷ []) s0 s1 p0 p1 t0 t1
   put_unsure path bytes not_fine blame more unsure may = elim may [
-    | inl m ↦ (0, one_unsure (Stores path bytes 0) false not_fine blame (more 0) unsure m.moves)
-    | inr (at, p) ↦
-        (at, one_unsure (Stores path bytes at) true not_fine blame (more at) unsure p.moves)
+    | inl m ↦ (
+      0,
+      omega arith,
+      one_unsure (Stores path bytes 0) false not_fine blame (more 0) unsure m.moves,
+    )
+    | inr (at, fits, p) ↦ (
+      at,
+      fits,
+      one_unsure (Stores path bytes at) true not_fine blame (more at) unsure p.moves,
+    )
   ]
 
   -- a delete that answered `Failed`

@@ -4,7 +4,7 @@ use Rattle.med_base.specs.Content.{Content}
 use Rattle.med_base.specs.Effects.{Effect, Stores, Removes, made, applied, after_all, IsMoment}
 use Rattle.med_outside.specs.Follows.{Follows}
 use Rattle.med_outside.specs.State.{State, OpenBucket, Changes, ChangesWithin, ChangesOnce, OnlyReads, IsAtRest, IsReady, MayChange, with_bucket, opened, History}
-use Rattle.med_outside.specs.Storage.{Put, MayPut, Delete, MayDelete}
+use Rattle.med_outside.specs.Storage.{AnswersPut, AnswersDelete}
 use Rattle.med_outside.specs.declared.denied.Denied.{Denied}
 use Rattle.med_outside.specs.declared.denied.Denied.TheVariants.{Failed, Memory}
 
@@ -161,24 +161,20 @@ module _ (s0 s1 : State) (p0 p1 : History) (rest : IsAtRest s0) where
 
   -- after a put
   pub put_rests : (path bytes : List ℕ) (r : Result ℕ Denied)
-      → IfOk r (Put path bytes s0 s1 p0 p1)
-      → (r ≡ Err Failed → MayPut path bytes s0 s1 p0 p1)
-      → (r ≡ Err Memory → ChangesOnce [] s0 s1 p0 p1) → IsAtRest s1
-  put_rests path bytes (Ok at) ok failed memory = once_rests (Stores path bytes at ∷ []) ok
-  put_rests path bytes (Err Failed) ok failed memory = elim (failed refl) [
+      → AnswersPut path bytes r s0 s1 p0 p1 → IsAtRest s1
+  put_rests path bytes (Ok at) put = once_rests (Stores path bytes at ∷ []) put
+  put_rests path bytes (Err Failed) may = elim may [
     | inl none ↦ once_rests [] none
-    | inr (at, put) ↦ once_rests (Stores path bytes at ∷ []) put
+    | inr (at, fits, put) ↦ once_rests (Stores path bytes at ∷ []) put
   ]
-  put_rests path bytes (Err Memory) ok failed memory = once_rests [] (memory refl)
+  put_rests path bytes (Err Memory) none = once_rests [] none
 
   -- after a delete
   pub delete_rests : (path : List ℕ) (r : Result (Unit {0}) Denied)
-      → OnOk r (Delete path s0 s1 p0 p1)
-      → (r ≡ Err Failed → MayDelete path s0 s1 p0 p1)
-      → (r ≡ Err Memory → ChangesOnce [] s0 s1 p0 p1) → IsAtRest s1
-  delete_rests path (Ok x) ok failed memory = once_rests (Removes path ∷ []) ok
-  delete_rests path (Err Failed) ok failed memory = elim (failed refl) [
+      → AnswersDelete path r s0 s1 p0 p1 → IsAtRest s1
+  delete_rests path (Ok x) gone = once_rests (Removes path ∷ []) gone
+  delete_rests path (Err Failed) may = elim may [
     | inl none ↦ once_rests [] none
     | inr gone ↦ once_rests (Removes path ∷ []) gone
   ]
-  delete_rests path (Err Memory) ok failed memory = once_rests [] (memory refl)
+  delete_rests path (Err Memory) none = once_rests [] none.0

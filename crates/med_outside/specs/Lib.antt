@@ -7,6 +7,7 @@ pub mod OpenPlaces
 pub mod Pages
 pub mod Pieces
 pub mod Recorded
+pub mod Sent
 pub mod Sink
 pub mod Snapshot
 pub mod State

@@ -1,5 +1,5 @@
 -- A call that changes a storage: which list of changes it makes, how far it came, what it records.
-use Rattle.std.specs.Prelude.{◌≡◌, ◌++◌, ◌-◌, ℕ, Bool, true, false, List, [], ◌∷◌, map, Option, Some, None, Result, IfOk, OnOk, IsOk, Ok, Err, vec_len, vec_capacity}
+use Rattle.std.specs.Prelude.{◌≡◌, ◌++◌, ◌-◌, ◌<◌, ◌^◌, ℕ, Bool, true, false, List, [], ◌∷◌, map, Option, Some, None, Result, IfOk, OnOk, IsOk, Ok, Err, vec_len, vec_capacity}
 use Rattle.med_base.specs.Classify.{is_data}
 use Rattle.med_base.specs.Fingerprint.{fingerprint_of}
 use Rattle.med_base.specs.Effects.{Effect, Stores, Removes}
@@ -74,11 +74,12 @@ abbrev pub IsError : {T E : Type 0} → Result T E → E → Type 0
 IsError (Ok x) error = ⊥
 IsError (Err x) error = x ≡ error
 
--- one object was stored, with the second that is answered; `fault` is the error of a failure
+-- one object was stored, with the second that is answered, which has 64 bits; `fault` is the error of
+-- a failure
 abbrev pub MakesPut : {E : Type 0} → E → List ℕ → List ℕ → Result ℕ E → (old new : State)
     → (stood_before stood_after : History) → (before after : Trace) → Type 0
 MakesPut fault path bytes result old new stood_before stood_after before after =
-    (at : ℕ) × IfOk result (λ second. second ≡ at)
+    (at : ℕ) × (at < 2 ^ 64) × IfOk result (λ second. second ≡ at)
     × Makes (IsOk result) (IsError result fault) (Stores path bytes at ∷ []) old new stood_before
     stood_after before after
 

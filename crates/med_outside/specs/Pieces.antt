@@ -1,5 +1,5 @@
 -- Objects and files in pieces.
-use Rattle.std.specs.Prelude.{◌≡◌, ◌≤◌, ◌+◌, ◌-◌, ◌^◌, ◌++◌, ℕ, List, [], take, drop, length, Option, option_map, IfSome}
+use Rattle.std.specs.Prelude.{◌≡◌, ◌≤◌, ◌+◌, ◌-◌, ◌^◌, ◌++◌, ℕ, List, [], take, drop, length, Option, Some, option_map, IfSome}
 use Rattle.std.specs.FinMap.{get}
 use Rattle.med_base.specs.Content.{Content, Object}
 use Rattle.med_outside.specs.State.{State, Upload}
@@ -25,6 +25,14 @@ EndsInRange from piece = from + length piece ≤ 2 ^ 64 - 1
 -- an upload that began
 abbrev pub begun : List ℕ → Upload
 begun path = record { path = path; bytes = [] }
+
+-- an upload that has these bytes
+abbrev pub upload_of : (path bytes : List ℕ) → Upload
+upload_of path bytes = record { path = path; bytes = bytes }
+
+-- bytes are being uploaded under the path
+abbrev pub IsUploading : List ℕ → State → Type 0
+IsUploading path s = (bytes : List ℕ) × (s.upload ≡ Some (upload_of path bytes))
 
 -- the same upload with more bytes
 abbrev pub with_piece : List ℕ → Option Upload → Option Upload

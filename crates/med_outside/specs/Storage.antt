@@ -1,10 +1,12 @@
 -- What the calls of a storage answer and leave.
-use Rattle.std.specs.Prelude.{◌≡◌, ◌⊎◌, ℕ, List, [], ◌∷◌, map, length, Option, option_map, IfSome}
+use Rattle.std.specs.Prelude.{◌≡◌, ◌⊎◌, ◌<◌, ◌^◌, ℕ, List, [], ◌∷◌, map, length, Option, option_map, IfSome, Result, Ok, Err}
 use Rattle.std.specs.FinMap.{get}
 use Rattle.med_base.specs.Content.{Content, Object, objects_under}
 use Rattle.med_base.specs.Fingerprint.{fingerprint_of}
 use Rattle.med_base.specs.Effects.{Stores, Removes}
 use Rattle.med_outside.specs.State.{State, ChangesOnce, History}
+use Rattle.med_outside.specs.declared.denied.Denied.{Denied}
+use Rattle.med_outside.specs.declared.denied.Denied.TheVariants.{Failed, Memory}
 use Rattle.med_outside.specs.declared.storage.Entry.{Entry}
 use Rattle.med_outside.specs.declared.storage.Stat.{Stat}
 
@@ -37,12 +39,22 @@ abbrev pub Put : (path bytes : List ℕ) → (old new : State) → (stood_before
 Put path bytes old new stood_before stood_after at =
     ChangesOnce (Stores path bytes at ∷ []) old new stood_before stood_after
 
--- after a failure: nothing changed, or the object was stored
+-- after a failure: nothing changed, or the object was stored, with a second of 64 bits
 abbrev pub MayPut : List ℕ → List ℕ → (old new : State) → (stood_before stood_after : History)
     → Type 0
 MayPut path bytes old new stood_before stood_after =
     ChangesOnce [] old new stood_before stood_after
-    ⊎ ((at : ℕ) × Put path bytes old new stood_before stood_after at)
+    ⊎ ((at : ℕ) × (at < 2 ^ 64) × Put path bytes old new stood_before stood_after at)
+
+-- what a put leaves, by its answer; where there is no memory nothing changed
+abbrev pub AnswersPut : (path bytes : List ℕ) → Result ℕ Denied → (old new : State)
+    → (stood_before stood_after : History) → Type 0
+AnswersPut path bytes (Ok at) old new stood_before stood_after =
+    Put path bytes old new stood_before stood_after at
+AnswersPut path bytes (Err Failed) old new stood_before stood_after =
+    MayPut path bytes old new stood_before stood_after
+AnswersPut path bytes (Err Memory) old new stood_before stood_after =
+    ChangesOnce [] old new stood_before stood_after
 
 -- the object was removed, if there was one
 abbrev pub Delete : List ℕ → (old new : State) → (stood_before stood_after : History) → Type 0
@@ -53,3 +65,14 @@ Delete path old new stood_before stood_after =
 abbrev pub MayDelete : List ℕ → (old new : State) → (stood_before stood_after : History) → Type 0
 MayDelete path old new stood_before stood_after =
     ChangesOnce [] old new stood_before stood_after ⊎ Delete path old new stood_before stood_after
+
+-- what a delete leaves, by its answer; there is no memory only where there is no room, or none is
+-- told, and then nothing changed
+abbrev pub AnswersDelete : {T : Type 0} → List ℕ → Result T Denied → (old new : State)
+    → (stood_before stood_after : History) → Type 0
+AnswersDelete path (Ok x) old new stood_before stood_after =
+    Delete path old new stood_before stood_after
+AnswersDelete path (Err Failed) old new stood_before stood_after =
+    MayDelete path old new stood_before stood_after
+AnswersDelete path (Err Memory) old new stood_before stood_after =
+    ChangesOnce [] old new stood_before stood_after × IfSome old.room (λ room. room ≡ 0)

@@ -1,11 +1,13 @@
 // Single changes of a storage, each recorded in a trace.
-ghost use Rattle.std.specs.Prelude.{◌≡◌, ◌≤◌, ◌++◌, ◌∷◌, [], is_none, false, IfOk, OnOk};
+ghost use Rattle.std.specs.Prelude.{◌≡◌, ◌≤◌, ◌<◌, ◌^◌, ◌++◌, ◌∷◌, ℕ, List, [], Some, None, is_none, true, false, IfOk, OnOk};
+ghost use Rattle.med_base.specs.Classify.{is_data};
 ghost use Rattle.med_outside.specs.declared.denied.Denied.TheVariants.{Failed};
 ghost use Rattle.med_outside.specs.declared.trace.Change.TheVariants.{Delete};
 ghost use Rattle.med_outside.specs.Causes.{HasCause};
 ghost use Rattle.med_outside.specs.Makes.{MakesPut, MakesDelete, spare};
+ghost use Rattle.med_outside.specs.Pieces.{IsUploading, upload_of, with_upload};
 ghost use Rattle.med_outside.specs.Recorded.{put_of, ready_of};
-ghost use Rattle.med_outside.specs.State.{IsNoData, MayChange};
+ghost use Rattle.med_outside.specs.State.{IsNoData, MayChange, OnlyReads};
 
 use crate::{Change, Denied, Storage, Text, Trace};
 use med_base::{Fingerprint, NoMemory, ObjPath};
@@ -16,7 +18,7 @@ use std::alloc::Global;
 pub(crate) struct ReadyPut {
     pub path: ObjPath,
     pub fingerprint: Fingerprint,
-    pub text: Text,
+    pub text: Option<Text>,
 }
 
 // Makes ready the record of a put, and reserves its place in the trace.
@@ -26,7 +28,7 @@ fn ready_put(
     bytes: &[u8],
     trace: &mut Trace,
 ) -> Result<ReadyPut, NoMemory>
-    ensures ready { IfOk result (λ ready. ready ≡ ready_of path.now bytes.now) }
+    ensures ready { IfOk result (λ ready. ready ≡ ready_of false path.now bytes.now) }
     ensures room { OnOk result (1 ≤ spare trace.new) }
     ensures changes { trace.new.changes.items ≡ trace.old.changes.items }
     ensures unsure { trace.new.unsure ≡ trace.old.unsure }
@@ -38,8 +40,39 @@ fn ready_put(
     Ok(ReadyPut {
         path,
         fingerprint,
-        text,
+        text: Some(text),
     })
+}
+
+// Makes ready the record of the put of a data object with this fingerprint, and reserves its place
+// in the trace.
+fn ready_data_put(
+    alloc: Global,
+    path: &ObjPath,
+    fingerprint: Fingerprint,
+    trace: &mut Trace,
+) -> Result<ReadyPut, NoMemory>
+    ensures ready { IfOk result (λ ready.
+        ready ≡ record { path = path.now; fingerprint = fingerprint; text = None }) }
+    ensures room { OnOk result (1 ≤ spare trace.new) }
+    ensures changes { trace.new.changes.items ≡ trace.old.changes.items }
+    ensures unsure { trace.new.unsure ≡ trace.old.unsure }
+{
+    let path = path.copy(alloc)?;
+    trace.reserve(1)?;
+    Ok(ReadyPut {
+        path,
+        fingerprint,
+        text: None,
+    })
+}
+
+// The second as it is recorded. It has 64 bits, which a caller of a storage wouldn't know else.
+fn told(second: u64) -> Option<u64>
+    ensures value { result ≡ Some second }
+    ensures fits { second < 2 ^ 64 }
+{
+    Some(second)
 }
 
 // Records a put, in the place that was reserved. One without a second is unsure.
@@ -54,7 +87,7 @@ fn record_put(trace: &mut Trace, ready: ReadyPut, second: Option<u64>)
         path: ready.path,
         fingerprint: ready.fingerprint,
         second,
-        text: Some(ready.text),
+        text: ready.text,
     };
     match trace.changes.push(change) {
         Ok(()) => {}
@@ -111,7 +144,7 @@ pub fn put_recorded<S: Storage>(
     };
     match store.put(alloc, path, bytes) {
         Ok(second) => {
-            record_put(trace, ready, Some(second));
+            record_put(trace, ready, told(second));
             Ok(second)
         }
         Err(Denied::Failed) => {
@@ -147,6 +180,68 @@ pub fn delete_recorded<S: Storage>(
         }
         Err(Denied::Failed) => {
             record_delete(trace, copy, true);
+            Err(Denied::Failed)
+        }
+        Err(Denied::Memory) => Err(Denied::Memory),
+    }
+}
+
+// Makes ready the record of what is being uploaded under the path.
+fn ready_commit<S: Storage>(
+    alloc: Global,
+    store: &mut S,
+    path: &ObjPath,
+    trace: &mut Trace,
+) -> Result<ReadyPut, NoMemory>
+    requires { IsUploading path.now (S.state store.old) }
+    ensures ready { IfOk result (λ ready. (bytes : List ℕ)
+        → (S.state store.old).upload ≡ Some (upload_of path.now bytes)
+        → ready ≡ ready_of true path.now bytes) }
+    ensures room { OnOk result (1 ≤ spare trace.new) }
+    ensures changes { trace.new.changes.items ≡ trace.old.changes.items }
+    ensures unsure { trace.new.unsure ≡ trace.old.unsure }
+    ensures same { S.state store.new ≡ S.state store.old }
+    ensures looks { OnlyReads (S.state store.old) (S.state store.new) (S.stood store.old)
+        (S.stood store.new) }
+{
+    match store.uploaded() {
+        Some(fingerprint) => ready_data_put(alloc, path, fingerprint, trace),
+        None => unreachable!(),
+    }
+}
+
+/// Commits what is being uploaded under the path of a data object, and records the put, as
+/// [`put_recorded`] does. There is no upload afterwards, whatever it answers.
+pub fn commit_recorded<S: Storage>(
+    alloc: Global,
+    store: &mut S,
+    path: &ObjPath,
+    trace: &mut Trace,
+) -> Result<u64, Denied>
+    requires upload { IsUploading path.now (S.state store.old) }
+    requires data { is_data (S.state store.old).terms.bucket.layout path.now ≡ true }
+    requires sure { trace.old.unsure ≡ false }
+    ensures makes { (bytes : List ℕ)
+        → (S.state store.old).upload ≡ Some (upload_of path.now bytes)
+        → MakesPut Denied.Failed path.now bytes result (with_upload None (S.state store.old))
+        (S.state store.new) (S.stood store.old) (S.stood store.new) trace.old trace.new }
+    ensures sure { OnOk result (trace.new.unsure ≡ false) }
+    ensures cause { HasCause (S.state store.old).faults (S.state store.new).faults result }
+{
+    let ready = match ready_commit(alloc, store, path, trace) {
+        Ok(ready) => ready,
+        Err(NoMemory) => {
+            store.drop_upload();
+            return Err(Denied::Memory);
+        }
+    };
+    match store.commit(alloc) {
+        Ok(second) => {
+            record_put(trace, ready, told(second));
+            Ok(second)
+        }
+        Err(Denied::Failed) => {
+            record_put(trace, ready, None);
             Err(Denied::Failed)
         }
         Err(Denied::Memory) => Err(Denied::Memory),

@@ -1,11 +1,11 @@
 // A bucket of objects.
-ghost use Rattle.std.specs.Prelude.{◌≡◌, ◌≤◌, ℕ, [], Some, None, is_some, IsTrue, IfOk, IfSome, OnOk, OnErr, IsErrOf, option_map};
+ghost use Rattle.std.specs.Prelude.{◌≡◌, ◌≤◌, ℕ, Some, None, is_some, IsTrue, IfOk, IfSome, OnOk, OnErr, option_map};
 ghost use Rattle.med_base.specs.Content.{Content};
-ghost use Rattle.med_outside.specs.declared.denied.Denied.TheVariants.{Failed, Memory};
-ghost use Rattle.med_outside.specs.State.{State, History, ChangesOnce, OnlyReads, IsCalled, IsAtRest, IsNoData, MayChange, opened, with_room};
+ghost use Rattle.med_base.specs.Fingerprint.{fingerprint_of};
+ghost use Rattle.med_outside.specs.State.{State, History, Upload, OnlyReads, IsCalled, IsAtRest, IsNoData, MayChange, opened, with_room};
 ghost use Rattle.med_outside.specs.Pages.{CountsDown, CountsRight, IsPage, shown};
 ghost use Rattle.med_outside.specs.Pieces.{AnswersPiece, EndsInRange, begun, with_piece, with_upload};
-ghost use Rattle.med_outside.specs.Storage.{IsToldAs, AnswersStat, AnswersBytes, Put, MayPut, Delete, MayDelete};
+ghost use Rattle.med_outside.specs.Storage.{IsToldAs, AnswersStat, AnswersBytes, AnswersPut, AnswersDelete};
 
 use crate::{Denied, Piece};
 use med_base::{Fingerprint, Layout, NoMemory, ObjPath};
@@ -94,19 +94,13 @@ pub trait Storage: Sized {
         ensures called { IsCalled (state self.old) (state self.new) result };
 
     /// Stores the bytes under the path, which isn't that of a data object, in place of an object that
-    /// was there, with the second that `now` gives, and answers that second. After `Failed` the object was stored or it wasn't;
-    /// after `Memory` it wasn't.
+    /// was there, with the second that `now` gives, and answers that second. After `Failed` the
+    /// object was stored or it wasn't; after `Memory` it wasn't.
     fn put(&mut self, alloc: Global, path: &ObjPath, bytes: &[u8]) -> Result<u64, Denied>
         requires free { MayChange path.now (state self.old).terms }
         requires no_data { IsNoData path.now (state self.old).terms }
-        ensures ok { IfOk result
-            (Put path.now bytes.now (state self.old) (state self.new) (stood self.old)
-            (stood self.new)) }
-        ensures failed { IsErrOf result Denied.Failed
-            → MayPut path.now bytes.now (state self.old) (state self.new) (stood self.old)
-            (stood self.new) }
-        ensures memory { IsErrOf result Denied.Memory
-            → ChangesOnce [] (state self.old) (state self.new) (stood self.old) (stood self.new) }
+        ensures answer { AnswersPut path.now bytes.now result (state self.old) (state self.new)
+            (stood self.old) (stood self.new) }
         ensures called { IsCalled (state self.old) (state self.new) result };
 
     /// Removes the object. It is fine where no object has the path. After `Failed` the object was
@@ -114,16 +108,8 @@ pub trait Storage: Sized {
     /// told, it wasn't.
     fn delete(&mut self, alloc: Global, path: &ObjPath) -> Result<(), Denied>
         requires { MayChange path.now (state self.old).terms }
-        ensures ok { OnOk result
-            (Delete path.now (state self.old) (state self.new) (stood self.old)
-            (stood self.new)) }
-        ensures failed { IsErrOf result Denied.Failed
-            → MayDelete path.now (state self.old) (state self.new) (stood self.old)
-            (stood self.new) }
-        ensures memory { IsErrOf result Denied.Memory
-            → ChangesOnce [] (state self.old) (state self.new) (stood self.old) (stood self.new) }
-        ensures full { IsErrOf result Denied.Memory
-            → IfSome (state self.old).room (λ room. room ≡ 0) }
+        ensures answer { AnswersDelete path.now result (state self.old) (state self.new)
+            (stood self.old) (stood self.new) }
         ensures called { IsCalled (state self.old) (state self.new) result };
 
     /// The next objects whose path begins with a text, in byte order of their paths: the first
@@ -188,20 +174,22 @@ pub trait Storage: Sized {
             (stood self.new)) }
         ensures called { IsCalled (state self.old) (state self.new) result };
 
+    /// The fingerprint of what was uploaded, and `None` where there is no upload. It is asked for
+    /// once the upload has all its bytes: a piece that is added behind it may be refused. It takes no
+    /// memory.
+    fn uploaded(&mut self) -> Option<Fingerprint>
+        ensures answer { result
+            ≡ option_map (λ (u : Upload). fingerprint_of u.bytes) (state self.old).upload }
+        ensures same { state self.new ≡ state self.old }
+        ensures looks { OnlyReads (state self.old) (state self.new) (stood self.old)
+            (stood self.new) };
+
     /// Stores what was uploaded, as `put` does, and ends the upload, whatever it answers.
     fn commit(&mut self, alloc: Global) -> Result<u64, Denied>
         requires { IsTrue (is_some (state self.old).upload) }
-        ensures ok { IfOk result
-            (λ at. IfSome (state self.old).upload
-            (λ u. Put u.path u.bytes (with_upload None (state self.old)) (state self.new)
-            (stood self.old) (stood self.new) at)) }
-        ensures failed { IsErrOf result Denied.Failed
-            → IfSome (state self.old).upload
-            (λ u. MayPut u.path u.bytes (with_upload None (state self.old)) (state self.new)
-            (stood self.old) (stood self.new)) }
-        ensures memory { IsErrOf result Denied.Memory
-            → ChangesOnce [] (with_upload None (state self.old)) (state self.new) (stood self.old)
-            (stood self.new) }
+        ensures answer { IfSome (state self.old).upload
+            (λ u. AnswersPut u.path u.bytes result (with_upload None (state self.old))
+            (state self.new) (stood self.old) (stood self.new)) }
         ensures called { IsCalled (state self.old) (state self.new) result };
 
     /// Ends the upload, if there is one. It takes no memory.

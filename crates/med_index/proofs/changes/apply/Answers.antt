@@ -6,7 +6,7 @@ use Rattle.med_index.proofs.changes.apply.Goals as goal
 
 pub returns-in-Err-Failed-clause-makes : goal.returns-in-Err-Failed-clause-makes
 returns-in-Err-Failed-clause-makes g c =
-    let (at, said, makes) = c.in-Err-Failed.ensures.makes in
+    let (at, fits, said, makes) = c.in-Err-Failed.ensures.makes in
     let change = Stores c.in-Put.path c.deref.result.now at in (
       change,
       subst (λ p. IsPlannedAs p change) (sym c.in-Put.is) (refl, c.deref.ensures.value),
@@ -15,7 +15,7 @@ returns-in-Err-Failed-clause-makes g c =
 
 pub returns-in-Err-Memory-clause-makes : goal.returns-in-Err-Memory-clause-makes
 returns-in-Err-Memory-clause-makes g c =
-    let (at, said, makes) = c.in-Err-Memory.ensures.makes in
+    let (at, fits, said, makes) = c.in-Err-Memory.ensures.makes in
     let change = Stores c.in-Put.path c.deref.result.now at in (
       change,
       subst (λ p. IsPlannedAs p change) (sym c.in-Put.is) (refl, c.deref.ensures.value),

@@ -4,13 +4,13 @@ use Rattle.med_index.proofs.entries.start_entries.Goals as goal
 
 pub returns-in-Err-clause-makes : goal.returns-in-Err-clause-makes
 returns-in-Err-clause-makes g c =
-    let (at, said, makes) = c.in-Err.ensures.makes in
+    let (at, fits, said, makes) = c.in-Err.ensures.makes in
     (λ i. at, cut_short _ _ _ _ _ _ _ _ _ _ _ _ (λ fine. absurd (cc fine)) (λ fault. fault) makes)
 
 pub returns-in-Err-put_entry-clause-makes : goal.returns-in-Err-put_entry-clause-makes
 returns-in-Err-put_entry-clause-makes g c =
-    let (first, said, makes) = c.in-Ok.ensures.makes in
-    let (next, also, more) = c.in-Err-put_entry.ensures.makes in (
+    let (first, fits, said, makes) = c.in-Ok.ensures.makes in
+    let (next, fit, also, more) = c.in-Err-put_entry.ensures.makes in (
       λ i. get_or (first ∷ next ∷ []) i 0,
       in_turn _ _ _ _ _ _ _ _ _ _ _ _ _ _ _ refl makes
           (cut_short _ _ _ _ _ _ _ _ _ _ _ _ (λ fine. absurd (cc fine)) (λ fault. fault) more),
@@ -18,8 +18,8 @@ returns-in-Err-put_entry-clause-makes g c =
 
 pub returns-clause-makes : goal.returns-clause-makes
 returns-clause-makes g c =
-    let (first, said, makes) = c.in-Ok.ensures.makes in
-    let (next, also, more) = c.in-Ok-put_entry.ensures.makes in
+    let (first, fits, said, makes) = c.in-Ok.ensures.makes in
+    let (next, fit, also, more) = c.in-Ok-put_entry.ensures.makes in
     let (last, rest) = c.put_mark.ensures.makes in (
       λ i. get_or (first ∷ next ∷ last ∷ []) i 0,
       in_turn _ _ _ _ _ _ _ _ _ _ _ _ _ _ _ refl makes

@@ -1,4 +1,4 @@
-use Rattle.std.proofs.Common.{rules, ◌≡◌, ◌∙◌, [], ◌∷◌, refl, ap}
+use Rattle.std.proofs.Common.{rules, ◌≡◌, ◌∙◌, [], ◌∷◌, refl, ap, arith}
 use Rattle.med_base.specs.Classify.{is_data, is_data_kind}
 use Rattle.med_base.specs.Effects.{Stores}
 use Rattle.med_base.specs.Layout.{entry_path}
@@ -11,6 +11,7 @@ returns-in-Err-clause-makes g c =
     let state = g.S.Storage.state c.args.store.now in
     let stood = g.S.Storage.stood c.args.store.now in (
       0,
+      omega arith,
       tt,
       nothing_yet _ _ state state stood stood c.args.trace.now c.args.trace.now
           (Stores (entry_path c.args.layout.now c.args.node.now c.args.name.now c.args.kind)

@@ -21,7 +21,7 @@ returns-in-Ok-delete-clause-makes g c =
     (g.S.Storage.stood c.args.store.now) (g.S.Storage.stood c.delete.new.self)
     c.args.trace.now c.ready_delete.new.trace c.record_delete.new.trace
     c.ready_delete.ensures.changes c.args.path.now c.in-Ok.copy c.in-Ok.ensures.ready
-    c.record_delete.ensures.changes c.record_delete.ensures.unsure c.in-Ok-delete.ensures.ok
+    c.record_delete.ensures.changes c.record_delete.ensures.unsure c.in-Ok-delete.ensures.answer
 
 -- src/recorded.rt:124:1
 pub returns-in-Err-Failed-clause-makes : goal.returns-in-Err-Failed-clause-makes
@@ -32,7 +32,7 @@ returns-in-Err-Failed-clause-makes g c =
     c.ready_delete.ensures.changes c.args.path.now c.in-Ok.copy c.in-Ok.ensures.ready
     (λ e. absurd (cc e)) refl c.record_delete-in-Err-Failed.ensures.changes
     c.record_delete-in-Err-Failed.ensures.unsure
-    (c.in-Err-Failed.ensures.failed (ap Err c.in-Err-Failed.field-0-is))
+    (rw c.in-Err-Failed.field-0-is at c.in-Err-Failed.ensures.answer)
 
 -- src/recorded.rt:124:1
 pub returns-in-Err-Memory-clause-makes : goal.returns-in-Err-Memory-clause-makes
@@ -42,4 +42,4 @@ returns-in-Err-Memory-clause-makes g c =
     c.args.trace.now c.ready_delete.new.trace (Removes c.args.path.now ∷ [])
     (λ e. absurd (cc e)) c.ready_delete.ensures.changes
     (c.ready_delete.ensures.unsure ∙ c.requires.sure)
-    (c.in-Err-Memory.ensures.memory (ap Err c.in-Err-Memory.field-0-is)).moves
+    (rw c.in-Err-Memory.field-0-is at c.in-Err-Memory.ensures.answer).0.moves

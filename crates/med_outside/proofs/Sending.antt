@@ -3,12 +3,15 @@ use Rattle.std.proofs.Common.{◌≡◌, ◌∙◌, ◌≤◌, ◌+◌, ◌-◌,
 use Rattle.std.specs.Prelude.{is_some, IsTrue}
 use Rattle.std.proofs.lemmas.Bool.{eqb-true, eqb-false}
 use Rattle.std.specs.FinMap.{get}
+use Rattle.med_base.specs.declared.fingerprint.Fingerprint.{Fingerprint}
 use Rattle.med_base.specs.declared.key.FileKey.{FileKey}
+use Rattle.med_base.specs.Fingerprint.{fingerprint_of}
 use Rattle.med_base.specs.Effects.{Effect}
-use Rattle.med_outside.specs.Pieces.{piece_size, piece_at, with_piece, with_upload}
+use Rattle.med_outside.specs.Pieces.{piece_size, piece_at, begun, upload_of, with_piece, with_upload}
+use Rattle.med_outside.specs.Sent.{IsPiece, IsSent, IsUploaded, IsWholeFile}
 use Rattle.med_outside.specs.Snapshot.{Snapshot, HasKey}
 use Rattle.med_outside.specs.State.{State, Upload, Changes, ChangesWithin, OnlyReads, History}
-use Rattle.med_outside.proofs.Passing.{passes_on, moves_at_rest}
+use Rattle.med_outside.proofs.Passing.{passes_on, moves_on, moves_at_rest}
 
 -- ---- what an upload has
 
@@ -77,6 +80,21 @@ module _ (s0 s1 s2 : State) (p0 p1 p2 : History) where
     upload = b.upload ∙ sym none;
     terms = b.terms ∙ a.moves.terms;
   }
+
+  -- a look behind it
+  pub look_behind : (u : Option Upload) → OnlyReads (with_upload u s0) s1 p0 p1
+      → OnlyReads s1 s2 p1 p2 → OnlyReads (with_upload u s0) s2 p0 p2
+  look_behind u a b = record {
+    moves = moves_on [] [] (with_upload u s0) s1 s2 p0 p1 p2 a.moves b.moves;
+    room = b.room ∙ a.room;
+  }
+
+  -- an upload that was given up
+  pub given_up : (u : Option Upload) → s0.upload ≡ None
+      → OnlyReads (with_upload u s0) s1 p0 p1 → OnlyReads (with_upload None s1) s2 p1 p2
+      → OnlyReads s0 s2 p0 p2
+  given_up u none a b =
+      record { moves = upload_on u [] none a b.moves; room = b.room ∙ a.room }
 
 -- no call at all
 pub nothing_sent : (s : State) (p : History)
@@ -153,9 +171,42 @@ read_of (Some s) key sent piece first next = read_on sent piece (get s.files key
 -- one piece more
 pub reads_on : (held : Option Snapshot) (key : FileKey) (more full : Bool)
     (sent piece sent_now : List ℕ) → more ≡ true → IsReadOf held key more sent
-    → IfSome held (λ s. Some piece ≡ option_map (piece_at (length sent)) (get s.files key))
-    → full ≡ (length piece == piece_size) → sent_now ≡ sent ++ piece
+    → IsPiece held key (length sent) full piece → sent_now ≡ sent ++ piece
     → IsReadOf held key full sent_now
-reads_on held key more full sent piece sent_now going first next full_is sent_is =
-    rw (full_is, sent_is) (read_of held key sent piece
-    (subst (λ (m : Bool). IsReadOf held key m sent) going first) next)
+reads_on held key more full sent piece sent_now going first is sent_is =
+    rw (is.full_is, sent_is) (read_of held key sent piece
+    (subst (λ (m : Bool). IsReadOf held key m sent) going first) is.piece_is)
+
+-- all was read
+pub all_read : (held : Option Snapshot) (key : FileKey) (more : Bool) (bytes : List ℕ)
+    → more ≡ false → IsReadOf held key more bytes → IsWholeFile held key bytes
+all_read None key more bytes end read = tt
+all_read (Some s) key more bytes end read = rw end at read
+
+-- ---- a file that was uploaded
+
+-- an upload that began is under way
+pub is_under_way : (path : List ℕ) (upload : Option Upload) → upload ≡ Some (begun path)
+    → IsTrue (is_some upload)
+is_under_way path upload is = rw is refl
+
+-- an upload began, all bytes were sent, and the fingerprint was told
+module _ (held : Option Snapshot) (key : FileKey) (path : List ℕ) (s0 s1 s2 s3 : State)
+    (p0 p1 p2 p3 : History) (began : OnlyReads (with_upload (Some (begun path)) s0) s1 p0 p1)
+    (sent : IsSent held key s1 s2 p1 p2) (looks : OnlyReads s2 s3 p2 p3) where
+  all_sent : s2.upload ≡ Some (upload_of path sent.bytes)
+  all_sent = sent.looks.moves.upload ∙ ap (with_piece sent.bytes) began.moves.upload
+
+  pub uploaded_all : (print : Fingerprint)
+      → Some print ≡ option_map (λ (u : Upload). fingerprint_of u.bytes) s2.upload
+      → IsUploaded held key path s0 s3 p0 p3 print
+  uploaded_all print is = record {
+    bytes = sent.bytes;
+    file_is = sent.file_is;
+    print_is = cc (is ∙ ap (option_map (λ (u : Upload). fingerprint_of u.bytes)) all_sent);
+    looks = look_behind s0 s2 s3 p0 p2 p3 (Some (upload_of path sent.bytes))
+        (subst (λ (u : Option Upload). OnlyReads (with_upload u s0) s2 p0 p2)
+        (ap (with_piece sent.bytes) began.moves.upload)
+        (looks_on s0 s1 s2 p0 p1 p2 (Some (begun path)) (with_piece sent.bytes s1.upload) began
+        sent.looks)) looks;
+  }
