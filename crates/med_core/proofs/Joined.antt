@@ -132,10 +132,10 @@ rising_apart (r ∷ rs) h = (
   rising_apart rs h.1,
 )
 
-abbrev IsRecord : Text → Text → Text → FileRecord → Type 0
+abbrev pub IsRecord : Text → Text → Text → FileRecord → Type 0
 IsRecord before f n r = IsKey r.key × IsPathOf before f n r.key r.path
 
-records_keyed : (before f n : Text) → IsFqdn f → IsBackupName n → (rs : List FileRecord)
+pub records_keyed : (before f n : Text) → IsFqdn f → IsBackupName n → (rs : List FileRecord)
     → AllByRecursion (IsRecord before f n) rs → AllByRecursion (λ (q : FileRecord). KeyByKind before
     f n q.key) rs
 records_keyed before f n node name [] h = tt
@@ -144,7 +144,7 @@ records_keyed before f n node name (r ∷ rs) h = (
   records_keyed before f n node name rs h.1,
 )
 
-records_files : (before f n : Text) → IsFqdn f → IsBackupName n → (rs : List FileRecord)
+pub records_files : (before f n : Text) → IsFqdn f → IsBackupName n → (rs : List FileRecord)
     → AllByRecursion (IsRecord before f n) rs → AllByRecursion (IsFileOf before f n) rs
 records_files before f n node name [] h = tt
 records_files before f n node name (r ∷ rs) h = (

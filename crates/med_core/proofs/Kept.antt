@@ -1,5 +1,5 @@
 -- The calls keep an exact index, and a rebuild makes it exact.
-use Rattle.std.proofs.Common.{◌≡◌, ◌≢◌, ◌⊎◌, ◌==◌, ℕ, Bool, true, false, cond, not, ◌&&◌, List, [], ◌∷◌, ◌++◌, Some, None, Option, refl, sym, ◌∙◌, ap, subst, inl, inr, All, bytes_eq}
+use Rattle.std.proofs.Common.{◌≡◌, ◌^◌, ◌<◌, ◌≢◌, ◌⊎◌, ◌==◌, ℕ, Bool, true, false, cond, not, ◌&&◌, List, [], ◌∷◌, ◌++◌, Some, None, Option, refl, sym, ◌∙◌, ap, subst, inl, inr, All, bytes_eq}
 use Rattle.std.specs.List.{list_any}
 use Rattle.std.proofs.lemmas.List.Elements.{All-head, All-tail}
 use Rattle.std.specs.FinMap as fin
@@ -22,7 +22,6 @@ use Rattle.med_core.specs.Claim.{changes_of_claim}
 use Rattle.med_core.specs.Finish.{Checked, Fresh, checked, is_stored_as, manifest_puts, with_placing, with_record}
 use Rattle.med_core.specs.Place.{Placing, is_same_print, placing, placing_over, reused, stored_own}
 use Rattle.med_core.specs.Removal.{changes_of_removal}
-use Rattle.med_core.specs.Section.{AreSeconds}
 use Rattle.med_manifest.proofs.ByKind.{FinishedByKind, HasPath, KeyByKind, NameByKind, NodeByKind, Text, at, folder, manifest, under}
 use Rattle.med_manifest.proofs.Elsewhere.{AreElsewhere, applied_append, get_elsewhere}
 use Rattle.med_manifest.proofs.Exacts.{AreSpots, given_same, look, look_get, manifests_by_name, mend_at, mend_done, mend_same, spots_elsewhere}
@@ -231,7 +230,7 @@ module _ (before : Text) (f : Text) (node : NodeByKind before f) where
           (refl, refl)))
 
   pub claim_has : (n : Text) (d : Bool) (schema ring : Text) (t : ℕ → ℕ) → NameByKind before f n
-      → AreSeconds t → AreSpots before f n (claim_spots d schema ring t)
+      → (t 0 < 2 ^ 64) → AreSpots before f n (claim_spots d schema ring t)
   claim_has n true schema ring t named small = (
     named.meta meta_kind.Schema,
     (
@@ -241,7 +240,7 @@ module _ (before : Text) (f : Text) (node : NodeByKind before f) where
         (
           named.entry index_kind.Tokenmap tt,
           (
-            named.entry (index_kind.Started (t 0)) (small 0),
+            named.entry (index_kind.Started (t 0)) small,
             (named.entry index_kind.Differential tt, tt),
           ),
         ),
@@ -254,13 +253,13 @@ module _ (before : Text) (f : Text) (node : NodeByKind before f) where
       named.meta meta_kind.Tokenmap,
       (
         named.entry index_kind.Tokenmap tt,
-        (named.entry (index_kind.Started (t 0)) (small 0), tt),
+        (named.entry (index_kind.Started (t 0)) small, tt),
       ),
     ),
   )
 
   pub claim_keeps : (c : Content) (n : Text) (d : Bool) (schema ring : Text) (t : ℕ → ℕ)
-      → NameByKind before f n → FreeByKind before c f n → AreSeconds t → ExactByKind before c f
+      → NameByKind before f n → FreeByKind before c f n → (t 0 < 2 ^ 64) → ExactByKind before c f
       → ExactByKind before (applied (changes_of_claim before f n d schema ring t) c) f
   claim_keeps c n d schema ring t named free small exact =
       let xs : List (Spot × Object) = claim_spots d schema ring t in
@@ -345,7 +344,7 @@ module _ (before : Text) (f : Text) (node : NodeByKind before f) where
 
   pub finish_keeps : (c : Content) (n : Text) (d : Bool) (records : List FileRecord) (x : Fresh)
       (b : Text) (t u : ℕ → ℕ) → NameByKind before f n → All (λ r. KeyByKind before f n r.key)
-      records → AreSeconds t
+      records → (t 0 < 2 ^ 64)
       → (s : Object) → fin.get c (at before (Meta f n meta_kind.Schema)) ≡ Some s
       → fin.get c (manifest before f n) ≡ None → ExactByKind before c f
       → ExactByKind before (applied (finish_with before f n (checked before f n d x c records) b t
@@ -372,7 +371,7 @@ module _ (before : Text) (f : Text) (node : NodeByKind before f) where
         (
           named.entry index_kind.Manifest tt,
           (
-            named.entry (index_kind.Finished (t 0)) (small 0),
+            named.entry (index_kind.Finished (t 0)) small,
             tt,
           ),
         ),

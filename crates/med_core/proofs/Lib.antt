@@ -5,6 +5,7 @@ pub mod Kept
 pub mod Law
 pub mod Lists
 pub mod Mends
+pub mod OverParts
 pub mod Parts
 pub mod Places
 pub mod Refusals

@@ -52,7 +52,7 @@ agree_made before f c d (Stores p b s) h q own = fin.get-insert nat_list_cmp_tot
 agree_made before f c d (Removes p) h q own = fin.get-remove nat_list_cmp_total c p q
     ∙ ap (cond (cmp_same q p) None) (h q own) ∙ sym (fin.get-remove nat_list_cmp_total d p q)
 
-agree_applied : (before : Text) (f : Text) (xs : List Effect) (c d : Content) → Agree before f c d
+pub agree_applied : (before : Text) (f : Text) (xs : List Effect) (c d : Content) → Agree before f c d
     → Agree before f (applied xs c) (applied xs d)
 agree_applied before f [] c d h = h
 agree_applied before f (x ∷ xs) c d h = agree_applied before f xs (made x c) (made x d)
@@ -188,7 +188,7 @@ module _ (before : Text) (f : Text) where
           folder before f b.1 meta_kind.Manifest meta_kind.Tokenmap stands.0)
           ∙ ap (λ a. mend_to before d f a t) (newest_agrees names)
 
-    placing_agrees : (n : Text) (e : Bool) (k : FileKey) → HasPath before (Shared f k)
+    pub placing_agrees : (n : Text) (e : Bool) (k : FileKey) → HasPath before (Shared f k)
         → (b : Text) (t : ℕ) → placing before f n e k b t c ≡ placing before f n e k b t d
     placing_agrees n true k has b t = ap (placing_over before f n k b t)
         (at_agrees (Shared f k) has mine)
@@ -278,7 +278,7 @@ module _ (before : Text) (f : Text) where
   file_path_owned n r (inl e) = ap (is_owned f) e ∙ mine
   file_path_owned n r (inr e) = ap (is_owned f) e ∙ mine
 
-  checked_agrees : (n : Text) (e : Bool) (x : Fresh) (rs : List FileRecord) (c d : Content)
+  pub checked_agrees : (n : Text) (e : Bool) (x : Fresh) (rs : List FileRecord) (c d : Content)
       → Agree before f c d → All (λ q. KeyByKind before f n q.key) rs → All (IsFileOf before f n) rs
       → checked before f n e x c rs ≡ checked before f n e x d rs
   checked_agrees n e x [] c d h keyed files = refl

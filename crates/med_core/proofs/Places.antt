@@ -1,5 +1,5 @@
 -- The changes of a claim, a place and a finish fit.
-use Rattle.std.proofs.Common.{◌≡◌, ◌≢◌, ℕ, Bool, true, false, cond, List, [], ◌∷◌, ◌++◌, Some, None, Option, refl, sym, ◌∙◌, ap, subst, inl, inr, All}
+use Rattle.std.proofs.Common.{◌≡◌, ◌^◌, ◌<◌, ◌≢◌, ℕ, Bool, true, false, cond, List, [], ◌∷◌, ◌++◌, Some, None, Option, refl, sym, ◌∙◌, ap, subst, inl, inr, All}
 use Rattle.std.proofs.lemmas.List.Elements.{All-contains, All-head, All-tail, All-cons, All-nil}
 use Rattle.std.specs.FinMap as fin
 use Rattle.med_base.specs.declared.layout.MetaKind.TheVariants as meta_kind
@@ -16,7 +16,6 @@ use Rattle.med_core.proofs.Steps.{IsNeeded, IsNew, file_not_manifest}
 use Rattle.med_core.specs.Claim.{changes_of_claim}
 use Rattle.med_core.specs.Finish.{Checked, Fresh, checked, is_stored_as, manifest_puts, with_placing, with_record}
 use Rattle.med_core.specs.Place.{Placing, is_same_print, placing, placing_over, reused, stored_own, stored_shared}
-use Rattle.med_core.specs.Section.{AreSeconds}
 use Rattle.med_manifest.proofs.ByKind.{FinishedByKind, HasPath, IsFileOf, KeyByKind, NameByKind, Reads, StandsByKind, StoredByPath, Text, at, files, manifest}
 use Rattle.med_manifest.proofs.Elsewhere.{applied_append}
 use Rattle.med_manifest.proofs.Gets.{get_put_other, get_put_same}
@@ -46,7 +45,7 @@ pub record IsGoodCheck (before : Text) (R : Text → Text → Type 0) (c : Conte
 
 module _ (before : Text) where
   pub claim_quiet : (f n : Text) → NameByKind before f n → (d : Bool) (schema ring : Text) (t : ℕ
-      → ℕ) → AreSeconds t → AreQuiet before (changes_of_claim before f n d schema ring t)
+      → ℕ) → (t 0 < 2 ^ 64) → AreQuiet before (changes_of_claim before f n d schema ring t)
   claim_quiet f n has true schema ring t fit = (
     quiet_at before (Meta f n meta_kind.Schema) (has.meta meta_kind.Schema) tt,
     (
@@ -57,7 +56,7 @@ module _ (before : Text) where
           quiet_at before (Entry f n index_kind.Tokenmap) (has.entry index_kind.Tokenmap tt) tt,
           (
             quiet_at before (Entry f n (index_kind.Started (t 0)))
-                (has.entry (index_kind.Started (t 0)) (fit 0)) tt,
+                (has.entry (index_kind.Started (t 0)) fit) tt,
             (
               quiet_at before (Entry f n index_kind.Differential)
                   (has.entry index_kind.Differential tt) tt,
@@ -76,7 +75,7 @@ module _ (before : Text) where
         quiet_at before (Entry f n index_kind.Tokenmap) (has.entry index_kind.Tokenmap tt) tt,
         (
           quiet_at before (Entry f n (index_kind.Started (t 0)))
-              (has.entry (index_kind.Started (t 0)) (fit 0)) tt,
+              (has.entry (index_kind.Started (t 0)) fit) tt,
           tt,
         ),
       ),
@@ -268,7 +267,7 @@ module _ (before : Text) where
           (more _ (λ (o, (has, is)). idle (o, (has, sym (one.manifests f n has) ∙ is))))
 
   pub finish_fits : (R : Text → Text → Type 0) (c : Content) (f n b : Text) → NameByKind before f n
-      → (rs : List FileRecord) (x : Checked) (t : ℕ → ℕ) → AreSeconds t → (latest : List Effect)
+      → (rs : List FileRecord) (x : Checked) (t : ℕ → ℕ) → (t 0 < 2 ^ 64) → (latest : List Effect)
       → ¬ (FinishedByKind before c f n) → ¬ (R f n) → IsGoodCheck before R c f n rs x
       → Reads before f n b x.files → FitsAll before (applied (manifest_puts before f n b t)
       (applied x.changes c)) R latest → FitsAll before c R (finish_with before f n x b t latest)
@@ -312,7 +311,7 @@ module _ (before : Text) where
         (
           entry_put before a R f n b o (has.entry index_kind.Manifest tt) stands refl,
           (
-            finished_put before d R f n [] (t 0) o (has.entry (index_kind.Finished (t 0)) (fit 0))
+            finished_put before d R f n [] (t 0) o (has.entry (index_kind.Finished (t 0)) fit)
                 still refl,
             tt,
           ),

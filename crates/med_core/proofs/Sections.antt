@@ -1,5 +1,5 @@
 -- Sections and runs over whole contents, by kinds of paths.
-use Rattle.std.proofs.Common.{◌≡◌, ◌⊎◌, ℕ, Bool, true, false, List, [], ◌∷◌, ◌++◌, Some, refl, All, Contains, bytes_eq}
+use Rattle.std.proofs.Common.{◌≡◌, ◌^◌, ◌<◌, ◌⊎◌, ℕ, Bool, true, false, List, [], ◌∷◌, ◌++◌, Some, refl, All, Contains, bytes_eq}
 use Rattle.std.specs.List.{AllByRecursion}
 use Rattle.std.specs.Option.{option_eq}
 use Rattle.std.specs.FinMap as fin
@@ -16,7 +16,7 @@ use Rattle.med_core.specs.Place.{placing}
 use Rattle.med_core.specs.Removal.{changes_of_removal}
 use Rattle.med_core.specs.Run.{effects, next_content, next_running}
 use Rattle.med_core.specs.Safe.{RunsThrough, kept_after_all}
-use Rattle.med_core.specs.Section.{Abandon, AreSeconds, Call, Claim, Done, Ending, Event, Finish, Halted, Place, Rebuild, Refused, Remove, Running, Stopped, Unsure}
+use Rattle.med_core.specs.Section.{Abandon, Call, Claim, Done, Ending, Event, Finish, Halted, Place, Rebuild, Refused, Remove, Running, Stopped, Unsure}
 use Rattle.med_manifest.proofs.ByKind.{IsFileOf, KeyByKind, NameByKind, NodeByKind, Reads, StandsByKind, Text}
 use Rattle.med_manifest.proofs.Gets.{target}
 use Rattle.med_manifest.proofs.IndexByKind.{rebuild_by}
@@ -43,14 +43,14 @@ FreeByKind before c f n = (p : Text) (o : Object) → fin.get c p ≡ Some o
 -- these are all the changes of the call
 abbrev pub ListByKind : Text → Content → Running → Text → Call → List Effect → Type 0
 ListByKind before c r f (Claim n d schema ring) xs = NameByKind before f n × (¬ (Contains r (f, n)))
-    × FreeByKind before c f n × ((t : ℕ → ℕ) × AreSeconds t
+    × FreeByKind before c f n × ((t : ℕ → ℕ) × (t 0 < 2 ^ 64)
     × (xs ≡ changes_of_claim before f n d schema ring t))
 ListByKind before c r f (Place n d k b) xs = KeyByKind before f n k × Contains r (f, n)
     × ((t : ℕ) × (xs ≡ (placing before f n d k b t c).changes))
 ListByKind before c r f (Finish n d records) xs = NodeByKind before f × NameByKind before f n
     × Contains r (f, n) × AreApart records × All (λ (q : FileRecord). KeyByKind before f n q.key)
     records × All (IsFileOf before f n) records
-    × ((x : Fresh) × (b : Text) × (t : ℕ → ℕ) × (u : ℕ → ℕ) × AreSeconds t × Reads before f n b
+    × ((x : Fresh) × (b : Text) × (t : ℕ → ℕ) × (u : ℕ → ℕ) × (t 0 < 2 ^ 64) × Reads before f n b
     (checked before f n d x c records).files
     × (xs ≡ finish_with before f n (checked before f n d x c records) b t
     (changes_of_mend before (applied (manifest_puts before f n b t)

@@ -184,7 +184,7 @@ module _ (before : Text) (c : Content) (r : Running) (f : Text) (node : NodeByKi
         (
           named.entry index_kind.Manifest tt,
           (
-            named.entry (index_kind.Finished (t 0)) (small 0),
+            named.entry (index_kind.Finished (t 0)) small,
             tt,
           ),
         ),

@@ -1,9 +1,9 @@
 -- How many data objects of a node, and how many bytes of them, a list of changes removes.
-use Rattle.std.specs.Prelude.{ℕ, ◌+◌, Bool, false, List, [], ◌∷◌, length, Option, Some, None, if◌then◌else◌, bytes_eq}
+use Rattle.std.specs.Prelude.{◌≡◌, ℕ, ◌+◌, Bool, false, List, [], ◌∷◌, length, Option, Some, None, if◌then◌else◌, bytes_eq}
 use Rattle.std.specs.FinMap.{get, entries}
 use Rattle.med_base.specs.Classify.{kind_of}
 use Rattle.med_base.specs.Content.{Content, Object}
-use Rattle.med_base.specs.Effects.{Effect, Stores, Removes, made}
+use Rattle.med_base.specs.Effects.{Effect, Stores, Removes, applied, made}
 use Rattle.med_base.specs.Kinds.{Kind, Shared, Own}
 
 -- a number for each object of a content
@@ -33,6 +33,11 @@ lost weight c (Removes path) = weight_in weight path (get c path)
 abbrev pub lost_all : Weight → Content → List Effect → ℕ
 lost_all weight c [] = 0
 lost_all weight c (x ∷ xs) = lost weight c x + lost_all weight (made x c) xs
+
+-- what the changes take and what they leave make the sum over what stood
+abbrev pub CountsWhatGoes : Weight → Content → List Effect → Type 0
+CountsWhatGoes weight c xs =
+    weighed weight (applied xs c) + lost_all weight c xs ≡ weighed weight c
 
 -- a file of a backup of the node, its own or a shared one
 abbrev pub is_data_of : List ℕ → Kind → Bool

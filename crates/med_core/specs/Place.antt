@@ -7,6 +7,9 @@ use Rattle.med_base.specs.Content.{Content, Object}
 use Rattle.med_base.specs.Effects.{Effect, Stores}
 use Rattle.med_base.specs.Fingerprint.{fingerprint_of}
 use Rattle.med_base.specs.Layout.{shared_path, own_path}
+use Rattle.med_core.specs.declared.records.How.{How}
+use Rattle.med_core.specs.declared.records.How.TheVariants.{Reused, Stored, Aside}
+use Rattle.med_core.specs.declared.records.Record.{Record}
 use Rattle.med_manifest.specs.declared.manifest.FileRecord.{FileRecord}
 
 -- the changes of a place, and the record of the file
@@ -67,3 +70,23 @@ abbrev pub placing : (before f n : List ℕ) (is_differential : Bool) (key : Fil
 placing before f n true key bytes second c =
     placing_over before f n key bytes second (get c (shared_path before f key))
 placing before f n false key bytes second c = stored_own before f n key bytes second
+
+-- how the file comes to its path, by what stands under the shared path
+abbrev pub how_over : (bytes : List ℕ) → Option Object → How
+how_over bytes None = Stored
+how_over bytes (Some o) =
+    if is_same_print (fingerprint_of o.bytes) (fingerprint_of bytes) then Reused else Aside
+
+-- the same in a differential backup, and in a full one
+abbrev pub how_placed : (before f : List ℕ) (is_differential : Bool) (key : FileKey)
+    (bytes : List ℕ) → Content → How
+how_placed before f true key bytes c = how_over bytes (get c (shared_path before f key))
+how_placed before f false key bytes c = Stored
+
+-- the record of a place
+abbrev pub placed_record : (before f n : List ℕ) (is_differential : Bool) (key : FileKey)
+    (bytes : List ℕ) → Content → Record
+placed_record before f n is_differential key bytes c = record {
+  file = (placing before f n is_differential key bytes 0 c).file;
+  how = how_placed before f is_differential key bytes c;
+}

@@ -93,20 +93,17 @@ IsFree before c f n = objects_under (backup_folder before f n) c ≡ []
 abbrev pub AreIdle : Running → List ℕ → List (List ℕ) → Type 0
 AreIdle running f names = AllByRecursion (λ n. Contains running (f, n) → ⊥) names
 
--- each fits 64 bits
-abbrev pub AreSeconds : (ℕ → ℕ) → Type 0
-AreSeconds seconds = (i : ℕ) → seconds i < 2 ^ 64
-
--- these are all the changes of the call over the content, with the seconds that its puts had
+-- these are all the changes of the call over the content, with the seconds that its puts had; that
+-- of a schema or a manifest, which an entry names, has 64 bits
 abbrev pub IsListOf : List ℕ → Content → Running → List ℕ → Call → List Effect → Type 0
 IsListOf before c running f (Claim n is_differential schema ring) xs =
     (Contains running (f, n) → ⊥) × IsFree before c f n
-    × ((seconds : ℕ → ℕ) × AreSeconds seconds
+    × ((seconds : ℕ → ℕ) × (seconds 0 < 2 ^ 64)
     × (xs ≡ changes_of_claim before f n is_differential schema ring seconds))
 IsListOf before c running f (Place n is_differential key bytes) xs =
     (second : ℕ) × (xs ≡ (placing before f n is_differential key bytes second c).changes)
 IsListOf before c running f (Finish n is_differential records) xs =
-    (fresh : Fresh) × (of_puts : ℕ → ℕ) × (of_mend : ℕ → ℕ) × AreSeconds of_puts
+    (fresh : Fresh) × (of_puts : ℕ → ℕ) × (of_mend : ℕ → ℕ) × (of_puts 0 < 2 ^ 64)
     × IsManifest before f n
     (manifest_text (checked before f n is_differential fresh c records).files)
     (checked before f n is_differential fresh c records).files

@@ -1,5 +1,5 @@
 // What holds of every run, and of each call whose whole list was made.
-ghost use Rattle.std.specs.Prelude.{◌≡◌, ◌≢◌, ◌↔◌, ◌+◌, ℕ, List, [], false};
+ghost use Rattle.std.specs.Prelude.{◌≡◌, ◌≢◌, ◌↔◌, ℕ, List, [], false};
 ghost use Rattle.std.specs.FinMap.{get};
 ghost use Rattle.std.specs.List.{AllByRecursion};
 ghost use Rattle.med_base.specs.declared.kinds.LatestKind.{LatestKind};
@@ -12,7 +12,7 @@ ghost use Rattle.med_manifest.specs.Index.{Entries, IsGiven, IsIndexSound, IsInd
 ghost use Rattle.med_manifest.specs.Mend.{changes_of_mend};
 ghost use Rattle.med_manifest.specs.Rebuild.{changes_of_rebuild, is_entry_of_node};
 ghost use Rattle.med_core.specs.After.{IsAfter, content_after};
-ghost use Rattle.med_core.specs.Counts.{weighed, as_file, as_bytes, removed_files, removed_bytes};
+ghost use Rattle.med_core.specs.Counts.{CountsWhatGoes, as_file, as_bytes};
 ghost use Rattle.med_core.specs.Outside.{AreNamedOutside};
 ghost use Rattle.med_core.specs.Reach.{AreWithin};
 ghost use Rattle.med_core.specs.Removal.{changes_of_removal};
@@ -53,7 +53,7 @@ pub fn refused_calls_have_no_list()
 {}
 
 /// A law: a removal whose whole list was made leaves the content without what it names. That is one
-/// content, and a filter of the mended content gives it.
+/// content and no other.
 pub fn removal_leaves_after()
     ensures after { (before : List ℕ) (c : Content) (f : List ℕ) (names named : List (List ℕ))
         (grace now : ℕ) (seconds : ℕ → ℕ) → IsFqdn f → AllByRecursion IsBackupName names
@@ -64,7 +64,11 @@ pub fn removal_leaves_after()
         (grace now : ℕ) → AreNamedOutside before c f names named → (mended left other : Content)
         → IsAfter before c f names grace now mended left
         → IsAfter before c f names grace now mended other → left ≡ other }
-    ensures filtered { (before : List ℕ) (c : Content) (f : List ℕ) (names named : List (List ℕ))
+{}
+
+/// A law: a filter of the mended content gives what a removal leaves.
+pub fn removal_is_a_filter()
+    ensures { (before : List ℕ) (c : Content) (f : List ℕ) (names named : List (List ℕ))
         (grace now : ℕ) (seconds : ℕ → ℕ) → IsFqdn f → AllByRecursion IsBackupName names
         → applied (changes_of_removal before c f names named grace now seconds) c
         ≡ content_after before c f names named grace now seconds }
@@ -75,16 +79,12 @@ pub fn removal_leaves_after()
 pub fn removal_counts_what_goes()
     ensures files { (before : List ℕ) (c : Content) (f : List ℕ) (names named : List (List ℕ))
         (grace now : ℕ) (seconds : ℕ → ℕ) → IsFqdn f
-        → weighed (as_file before f)
-        (applied (changes_of_removal before c f names named grace now seconds) c)
-        + removed_files before f c (changes_of_removal before c f names named grace now seconds)
-        ≡ weighed (as_file before f) c }
+        → CountsWhatGoes (as_file before f) c
+        (changes_of_removal before c f names named grace now seconds) }
     ensures bytes { (before : List ℕ) (c : Content) (f : List ℕ) (names named : List (List ℕ))
         (grace now : ℕ) (seconds : ℕ → ℕ) → IsFqdn f
-        → weighed (as_bytes before f)
-        (applied (changes_of_removal before c f names named grace now seconds) c)
-        + removed_bytes before f c (changes_of_removal before c f names named grace now seconds)
-        ≡ weighed (as_bytes before f) c }
+        → CountsWhatGoes (as_bytes before f) c
+        (changes_of_removal before c f names named grace now seconds) }
 {}
 
 /// A law: a call whose whole list was made leaves an exact index exact. The index of a node is

@@ -59,11 +59,13 @@ returns-then-fails-clause-err c =
     let moved = c.saturating_add-self-inside.ensures in
     let set = rw (c.as_str.ensures) at c.in_ok-fails.ensures.lands (ap Ok c.if-fails.true) in
     rw (← c.self.view_is)
-    (leaves_done _ _ _ set (omega (arith, c.self.ranges.1),
-    makes_one _ _ _ _ _ _ _ _ _ _ _ (Stores a.path.now a.bytes.now s.clock)
-    c.self.invariant.0.made_by c.in_ok-put_object.ensures.noted c.in_ok-fails.ensures.ok
-    (refl, (_, λ _. omega (arith, moved, c.self.ranges.1), refl)) (omega (arith, left))
-    (omega (arith, left))))
+    (leaves_done _ _ _ set (
+      omega (arith, c.self.ranges.1),
+      makes_one _ _ _ _ _ _ _ _ _ _ _ (Stores a.path.now a.bytes.now s.clock)
+          c.self.invariant.0.made_by c.in_ok-put_object.ensures.noted c.in_ok-fails.ensures.ok
+          (refl, (_, λ _. omega (arith, moved, c.self.ranges.1), refl)) (omega (arith, left))
+          (omega (arith, left)),
+    ))
 
 pub returns-clause-ok : goal.returns-clause-ok
 returns-clause-ok c =
