@@ -12,7 +12,8 @@ use Rattle.med_base.specs.Layout.{meta_path}
 use Rattle.med_manifest.specs.declared.manifest.FileRecord.{FileRecord}
 use Rattle.med_manifest.specs.EntryPuts.{finish_puts}
 use Rattle.med_manifest.specs.Mend.{changes_of_mend}
-use Rattle.med_core.specs.Place.{Placing, is_same_print, placing}
+use Rattle.med_core.specs.declared.records.Record.{Record}
+use Rattle.med_core.specs.Place.{Placing, is_same_print, placing, placed_record}
 
 -- the object has this fingerprint
 abbrev pub is_stored_as : Fingerprint → Option Object → Bool
@@ -54,6 +55,17 @@ checked before f n is_differential fresh c (r ∷ rs) =
     else with_placing (placed_again before f n is_differential fresh c r)
     (checked before f n is_differential fresh
     (applied (placed_again before f n is_differential fresh c r).changes c) rs)
+
+-- the records after such a look, each with how its file came to its path
+abbrev pub rechecked : (before f n : List ℕ) (is_differential : Bool) → Fresh → Content
+    → List Record → List Record
+rechecked before f n is_differential fresh c [] = []
+rechecked before f n is_differential fresh c (r ∷ rs) =
+    if is_stored_as r.file.fingerprint (get c r.file.path)
+    then r ∷ rechecked before f n is_differential fresh c rs
+    else placed_record before f n is_differential r.file.key (fresh.bytes r.file.key) c
+    ∷ rechecked before f n is_differential fresh
+    (applied (placed_again before f n is_differential fresh c r.file).changes c) rs
 
 -- the manifest is put, then its entries, with its second; `seconds` are those of the puts
 abbrev pub manifest_puts : (before f n manifest : List ℕ) (seconds : ℕ → ℕ) → List Effect

@@ -1,0 +1,7 @@
+pub mod Acts
+pub mod Claims
+pub mod Endings
+pub mod Finishes
+pub mod Places
+pub mod Records
+pub mod Shelf
