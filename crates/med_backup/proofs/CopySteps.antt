@@ -12,10 +12,11 @@ use Rattle.med_outside.specs.State.{State, History}
 use Rattle.med_outside.specs.World.{rose_of_node}
 use Rattle.med_outside.proofs.Passing.{moves_at_rest}
 use Rattle.med_backup.specs.Copies.{ChangeLists, IsPut, OrNothing, IsMadeBy, IsMetaPut, ArePut, AreFirstPut, HasFiles, HasAll}
-use Rattle.med_backup.specs.Errors.{device_of, stop_of_fault}
+use Rattle.med_outside.specs.Sent.{device_of}
+use Rattle.med_backup.specs.Errors.{stop_of_fault}
 use Rattle.med_backup.specs.Plan.{Passed, copy_plan}
-use Rattle.med_backup.specs.declared.place.CopyFault.{CopyFault}
-use Rattle.med_backup.specs.declared.place.CopyFault.TheVariants.{Snap, Store, Memory}
+use Rattle.med_outside.specs.declared.copy_fault.CopyFault.{CopyFault}
+use Rattle.med_outside.specs.declared.copy_fault.CopyFault.TheVariants.{Snap, Store, Memory}
 use Rattle.med_backup.proofs.Made.{made_on, none_made}
 
 -- files with these keys were put, and this is what the manifest records of them

@@ -5,27 +5,11 @@ use Rattle.med_outside.specs.declared.denied.Denied.TheVariants.{Failed, Memory}
 use Rattle.med_outside.specs.Causes.{RoseOrFull}
 use Rattle.med_outside.specs.Counts.{SnapshotCounts, Tagged, after_open, with_opened}
 use Rattle.med_outside.specs.Ends.{Storage, on, Refusal, StopsAt}
-use Rattle.med_outside.specs.State.{State, ChangesOnce, History}
-use Rattle.med_outside.specs.Storage.{MayPut}
 use Rattle.med_outside.specs.World.{rose_of_node}
-use Rattle.med_backup.specs.Errors.{fault_of, stop_of_fault}
-use Rattle.med_backup.specs.declared.place.CopyFault.{CopyFault}
-use Rattle.med_backup.specs.declared.place.CopyFault.TheVariants.{Store}
-
--- what holds holds after a refusal
-pub on_err : {T E : Type 0} {P : Type 0} (r : Result T E) → P → OnErr r P
-on_err (Ok x) h = tt
-on_err (Err e) h = h
-
--- the call was a good one
-pub from_ok : {T E P : Type 0} (r : Result T E) → true ≡ is_ok r → OnOk r P → P
-from_ok (Ok x) e h = h
-from_ok (Err x) e h = absurd (cc e)
-
--- the call was refused
-pub from_err : {T E P : Type 0} (r : Result T E) → false ≡ is_ok r → OnErr r P → P
-from_err (Ok x) e h = absurd (cc e)
-from_err (Err x) e h = h
+use Rattle.med_outside.specs.Sent.{fault_of}
+use Rattle.med_backup.specs.Errors.{stop_of_fault}
+use Rattle.med_outside.specs.declared.copy_fault.CopyFault.{CopyFault}
+use Rattle.med_outside.specs.declared.copy_fault.CopyFault.TheVariants.{Store}
 
 -- the value of a good call
 pub value_of : {T E : Type 0} (P : T → Type 0) (Q : E → Type 0) (r : Result T E) (x : T)
@@ -33,23 +17,6 @@ pub value_of : {T E : Type 0} (P : T → Type 0) (Q : E → Type 0) (r : Result 
     → IfOk r P → P x
 value_of P Q (Ok y) x e is h = subst P (cc is) h
 value_of P Q (Err y) x e is h = absurd (cc e)
-
--- some value of a good call
-pub some_value : {T E : Type 0} (P : T → Type 0) (r : Result T E) → true ≡ is_ok r → IfOk r P
-    → (x : T) × P x
-some_value P (Ok y) e h = (y, h)
-some_value P (Err y) e h = absurd (cc e)
-
--- a put that was refused
-pub may_put : (path bytes : List ℕ) (old new : State) (stood_before stood_after : History)
-    (r : Result ℕ Denied) → false ≡ is_ok r
-    → (r ≡ Err Failed → MayPut path bytes old new stood_before stood_after)
-    → (r ≡ Err Memory → ChangesOnce [] old new stood_before stood_after)
-    → MayPut path bytes old new stood_before stood_after
-may_put path bytes old new stood_before stood_after (Ok x) e failed memory = absurd (cc e)
-may_put path bytes old new stood_before stood_after (Err Failed) e failed memory = failed refl
-may_put path bytes old new stood_before stood_after (Err Memory) e failed memory =
-    inl (memory refl)
 
 -- why a call of the storage stopped, where its denial is told as a fault
 pub store_stop : {T U : Type 0} (answers : Result U Refusal → Type 0) (A : T → Type 0)

@@ -10,6 +10,5 @@ pub mod Made
 pub mod MadeOf
 pub mod NodeSteps
 pub mod Placed
-pub mod Sending
 pub mod Stands
 pub mod Uploaded

@@ -1,5 +1,5 @@
 -- How the work on a node ends, out of its parts.
-use Rattle.std.proofs.Common.{◌≡◌, ◌≤◌, ◌+◌, ◌-◌, ◌^◌, min, ℕ, List, [], Option, sym, ◌∙◌, subst, arith, Result, Ok, Err, OnOk}
+use Rattle.std.proofs.Common.{◌≡◌, ◌≤◌, ◌+◌, ◌-◌, ◌^◌, min, ℕ, List, [], Option, sym, ◌∙◌, subst, arith, Vec, Global, Result, Ok, Err, IfOk, OnOk}
 use Rattle.med_base.specs.declared.key.FileKey.{FileKey}
 use Rattle.med_base.specs.Content.{Content}
 use Rattle.med_manifest.specs.declared.manifest.FileRecord.{FileRecord}
@@ -12,7 +12,9 @@ use Rattle.med_outside.proofs.EndsLemmas.{carried, goes_on}
 use Rattle.med_outside.proofs.Passing.{after_all-nothing}
 use Rattle.med_backup.specs.BackedUp.{IsBackedUpFrom}
 use Rattle.med_backup.specs.Copies.{ChangeLists, IsMadeBy}
-use Rattle.med_backup.specs.NodeConfig.{NodeConfig, opened_at}
+use Rattle.med_backup.specs.declared.look.BackupError.{BackupError}
+use Rattle.med_backup.specs.NodeConfig.{NodeConfig, opened_at, snap_at}
+use Rattle.med_backup.specs.NodeEnds.{IsBackedUpAt}
 use Rattle.med_backup.specs.Plan.{Left, Leaves, tagged_at, look_plan, copy_plan, snapshot_plan}
 use Rattle.med_backup.proofs.Made.{made_later}
 
@@ -100,3 +102,21 @@ after_look before f n held told rb rm rn sb sm sn snap store s0 s1 s2 p0 p1 p2 f
     (carried (rose_of_node rm rn sm sn) rose (later_rose rb rm rn sb sm sn snap store)
     (IsMadeBy s1 s2 p1 p2) (IsMadeBy s0 s2 p0 p2) (made_later s0 s1 s2 p0 p1 p2 first)
     (copy_plan before f n held order schema) r copied)
+
+-- what was made over the open bucket was made over the one that was opened, and one snapshot was
+-- counted
+pub ok_and_counted : (node_config : NodeConfig) (n : List ℕ) (nodes nodes_now : NodesState)
+    (s0 s1 s2 : State) (p0 p1 p2 : History)
+    → ChangesWithin [] (opened_at node_config s0) s1 p0 p1
+    → (r : Result (Vec FileRecord Global) BackupError)
+    → IfOk r
+    (λ files. IsBackedUpFrom node_config.before node_config.node n
+    (snap_at nodes.snaps node_config n) s1 s2 p1 p2 files.items)
+    → OnOk r (nodes_now.counts ≡ opened_once (tagged_at node_config n) nodes.counts)
+    → IfOk r (IsBackedUpAt node_config n nodes nodes_now s0 s2 p0 p2)
+ok_and_counted node_config n nodes nodes_now s0 s1 s2 p0 p1 p2 first (Ok files) made counted = (
+  made_after node_config.before node_config.node n (snap_at nodes.snaps node_config n)
+      (opened_at node_config s0) s1 s2 p0 p1 p2 files.items first made,
+  counted,
+)
+ok_and_counted node_config n nodes nodes_now s0 s1 s2 p0 p1 p2 first (Err e) made counted = tt

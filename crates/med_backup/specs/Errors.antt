@@ -1,23 +1,10 @@
 -- How the errors of the code are told in a plan.
 use Rattle.std.specs.Prelude.{ℕ, List}
-use Rattle.med_outside.specs.declared.denied.Denied.{Denied}
-use Rattle.med_outside.specs.declared.denied.Denied.TheVariants as denied
-use Rattle.med_outside.specs.Ends.{Device, Nodes, Storage, Memory, Taken, NoSnapshot, BadFileName, Stop, Refused, Failed}
+use Rattle.med_outside.specs.Ends.{Taken, NoSnapshot, BadFileName, Stop, Refused, Failed}
 use Rattle.med_backup.specs.declared.look.BackupError.{BackupError}
 use Rattle.med_backup.specs.declared.look.BackupError.TheVariants as error
-use Rattle.med_backup.specs.declared.place.CopyFault.{CopyFault}
-use Rattle.med_backup.specs.declared.place.CopyFault.TheVariants as fault
-
--- the fault where a call is denied; the first is that of a call that failed
-abbrev pub fault_of : CopyFault → Denied → CopyFault
-fault_of failed denied.Failed = failed
-fault_of failed denied.Memory = fault.Memory
-
--- the device that failed
-abbrev pub device_of : CopyFault → Device
-device_of fault.Snap = Nodes
-device_of fault.Store = Storage
-device_of fault.Memory = Memory
+use Rattle.med_outside.specs.declared.copy_fault.CopyFault.{CopyFault}
+use Rattle.med_outside.specs.Sent.{device_of}
 
 -- how a fault ends a call
 abbrev pub stop_of_fault : CopyFault → Stop

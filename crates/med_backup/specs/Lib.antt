@@ -5,5 +5,6 @@ pub mod Errors
 pub mod Plan
 pub mod Sent
 pub mod NodeConfig
+pub mod NodeEnds
 pub mod Taken
 pub mod Walked

@@ -12,10 +12,10 @@ ghost use Rattle.med_backup.specs.Errors.{stop_of_fault};
 ghost use Rattle.med_backup.specs.Plan.{copy_plan};
 
 use crate::look::Found;
-use crate::place::{CopyFault, of_store, place_all, put_meta};
+use crate::place::{place_all, put_meta};
 use med_base::{BackupName, Fqdn, Layout, MetaKind};
 use med_manifest::{FileRecord, Manifest};
-use med_outside::{Snap, Storage};
+use med_outside::{CopyFault, Snap, Storage};
 use std::alloc::Global;
 
 /// Makes the puts of a backup, the manifest last, and answers what the manifest records.
@@ -50,12 +50,16 @@ pub(crate) fn copy_found<S: Storage, P: Snap>(
     ensures store_later { (S.state store.old).faults ≤ (S.state store.new).faults }
 {
     let schema = found.schema.as_slice();
-    put_meta(alloc, store, layout, node, name, MetaKind::Schema, schema).map_err(of_store)?;
+    put_meta(alloc, store, layout, node, name, MetaKind::Schema, schema).map_err(
+        CopyFault::of_store,
+    )?;
     let keys = found.keys.as_slice();
     let files = place_all(alloc, store, snap, layout, node, name, keys)?;
     let manifest = Manifest { files };
     let text = manifest.write(alloc)?;
     let bytes = text.as_slice();
-    put_meta(alloc, store, layout, node, name, MetaKind::Manifest, bytes).map_err(of_store)?;
+    put_meta(alloc, store, layout, node, name, MetaKind::Manifest, bytes).map_err(
+        CopyFault::of_store,
+    )?;
     Ok(manifest.files)
 }

@@ -16,4 +16,3 @@ mod upload;
 pub use keys::{WalkError, walk};
 pub use look::BackupError;
 pub use node::backup_node;
-pub use place::CopyFault;

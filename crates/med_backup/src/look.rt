@@ -14,9 +14,8 @@ ghost use Rattle.med_backup.specs.Plan.{look_plan};
 ghost use Rattle.med_backup.specs.Taken.{first_entry, IsFirstUnder};
 
 use crate::keys::{WalkError, walk};
-use crate::place::{CopyFault, of_snap, of_store};
 use med_base::{BackupName, FileKey, Fqdn, Layout, ObjPath};
-use med_outside::{Denied, Entry, Snap, Storage};
+use med_outside::{CopyFault, Denied, Entry, Snap, Storage};
 use std::alloc::Global;
 
 /// Why a backup wasn't made.
@@ -104,8 +103,8 @@ pub(crate) fn look<S: Storage, P: Snap>(
         Err(WalkError::Snap) => return Err(BackupError::Fault(CopyFault::Snap)),
         Err(WalkError::Memory) => return Err(BackupError::Fault(CopyFault::Memory)),
     };
-    let schema = snap.schema(alloc).map_err(of_snap)?;
-    match first_under(alloc, store, layout, node, name).map_err(of_store)? {
+    let schema = snap.schema(alloc).map_err(CopyFault::of_snap)?;
+    match first_under(alloc, store, layout, node, name).map_err(CopyFault::of_store)? {
         None => Ok(Found { keys, schema }),
         Some(path) => Err(BackupError::Taken { path }),
     }

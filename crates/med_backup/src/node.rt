@@ -9,15 +9,15 @@ ghost use Rattle.med_backup.specs.BackedUp.{IsBackedUpFrom};
 ghost use Rattle.med_backup.specs.Copies.{IsMadeBy};
 ghost use Rattle.med_backup.specs.Errors.{stop_of};
 ghost use Rattle.med_backup.specs.Plan.{Left, Leaves, snapshot_plan, opened_plan, node_plan, tagged_at};
+ghost use Rattle.med_backup.specs.NodeEnds.{EndsBackup, IsBackedUpAt, IsLaterNode};
 ghost use Rattle.med_backup.specs.NodeConfig.{node_config_of, opened_at, snap_at};
 
 use crate::copy::copy_found;
 use crate::look::{BackupError, look};
-use crate::place::{CopyFault, of_snap, of_store};
 use med_base::{BackupName, Fqdn, Layout};
 use med_ini::Config;
 use med_manifest::FileRecord;
-use med_outside::{Nodes, Snap, Storage};
+use med_outside::{CopyFault, Nodes, Snap, Storage};
 use std::alloc::Global;
 
 // Backs up the snapshot, where nothing stands against it.
@@ -83,7 +83,7 @@ fn backup_opened<S: Storage, N: Nodes>(
     };
     let root = config.nodes_root.as_str();
     let opened = nodes.open(alloc, root, &config.node, tag.as_str());
-    let mut snap = opened.map_err(of_snap)?;
+    let mut snap = opened.map_err(CopyFault::of_snap)?;
     let layout = &config.layout;
     let answer = backup_snapshot(alloc, store, &mut snap, layout, &config.node, name);
     nodes.close(snap);
@@ -101,24 +101,17 @@ pub fn backup_node<S: Storage, N: Nodes>(
 ) -> Result<Vec<FileRecord>, BackupError>
     requires { IsAtRest (S.state store.old) }
     ensures ok { IfOk result
-        (λ files. IsBackedUpFrom config.now.layout config.now.node name.now
-        (snap_at (N.state nodes.old).snaps (node_config_of config.now) name.now)
-        (opened_at (node_config_of config.now) (S.state store.old))
-        (S.state store.new) (S.stood store.old) (S.stood store.new) files.items) }
-    ensures ends { Ends (rose_of_node (N.state nodes.old).faults (N.state nodes.new).faults
-        (S.state store.old).faults (S.state store.new).faults)
-        (Leaves (N.state nodes.old) (N.state nodes.new) (S.state store.old) (S.state store.new)
-        (S.stood store.old) (S.stood store.new))
-        (node_plan (node_config_of config.now) name.now (N.state nodes.old).snaps
-        (S.state store.old).content) (seen (λ files. files.items) (stop_of name.now) result) }
-    ensures snapshot { OnOk result ((N.state nodes.new).counts
-        ≡ opened_once (tagged_at (node_config_of config.now) name.now) (N.state nodes.old).counts) }
-    ensures same { (N.state nodes.new).snaps ≡ (N.state nodes.old).snaps }
-    ensures nodes_later { (N.state nodes.old).faults ≤ (N.state nodes.new).faults }
-    ensures store_later { (S.state store.old).faults ≤ (S.state store.new).faults }
+        (IsBackedUpAt (node_config_of config.now) name.now (N.state nodes.old)
+        (N.state nodes.new) (S.state store.old) (S.state store.new) (S.stood store.old)
+        (S.stood store.new)) }
+    ensures ends { EndsBackup (node_config_of config.now) name.now (N.state nodes.old)
+        (N.state nodes.new) (S.state store.old) (S.state store.new) (S.stood store.old)
+        (S.stood store.new) result }
+    ensures later { IsLaterNode (N.state nodes.old) (N.state nodes.new) (S.state store.old)
+        (S.state store.new) }
 {
     let (base, bucket) = (config.base.as_str(), config.bucket.as_str());
     let opened = store.open(alloc, base, bucket, &config.layout);
-    opened.map_err(of_store)?;
+    opened.map_err(CopyFault::of_store)?;
     backup_opened(alloc, store, nodes, config, name)
 }

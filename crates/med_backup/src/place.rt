@@ -6,61 +6,14 @@ ghost use Rattle.med_outside.specs.Causes.{HasCause};
 ghost use Rattle.med_outside.specs.Snapshot.{HasKey, StaysOpen};
 ghost use Rattle.med_outside.specs.State.{IsAtRest, IsReady};
 ghost use Rattle.med_outside.specs.World.{rose_of_node};
-ghost use Rattle.med_backup.specs.declared.place.CopyFault.TheVariants.{Memory};
 ghost use Rattle.med_backup.specs.Copies.{IsPut, OrNothing, IsMadeBy, ArePut, AreFirstPut};
-ghost use Rattle.med_backup.specs.Errors.{fault_of, device_of};
+ghost use Rattle.med_outside.specs.Sent.{device_of};
 
 use crate::upload::store_file;
-use med_base::{BackupName, FileKey, Fqdn, Layout, MetaKind, NoMemory};
+use med_base::{BackupName, FileKey, Fqdn, Layout, MetaKind};
 use med_manifest::FileRecord;
-use med_outside::{Denied, Snap, Storage};
-use std::alloc::{AllocFailed, Global};
-
-/// Why copying broke off.
-#[derive(Clone, Copy, Debug, PartialEq, Eq)]
-pub enum CopyFault {
-    /// The snapshot's count of faults rose.
-    Snap,
-    /// The storage's count of faults rose.
-    Store,
-    Memory,
-}
-
-impl From<NoMemory> for CopyFault {
-    ghost from_gives = { λ _ e. e ≡ Memory };
-
-    fn from(_: NoMemory) -> Self {
-        CopyFault::Memory
-    }
-}
-
-impl<T: Drop> From<AllocFailed<T>> for CopyFault {
-    ghost from_gives = { λ _ e. e ≡ Memory };
-
-    fn from(_: AllocFailed<T>) -> Self {
-        CopyFault::Memory
-    }
-}
-
-/// The fault where a call of the storage is denied.
-pub(crate) fn of_store(denied: Denied) -> CopyFault
-    ensures { result ≡ fault_of CopyFault.Store denied }
-{
-    match denied {
-        Denied::Failed => CopyFault::Store,
-        Denied::Memory => CopyFault::Memory,
-    }
-}
-
-/// The fault where a call of the nodes or of a snapshot is denied.
-pub(crate) fn of_snap(denied: Denied) -> CopyFault
-    ensures { result ≡ fault_of CopyFault.Snap denied }
-{
-    match denied {
-        Denied::Failed => CopyFault::Snap,
-        Denied::Memory => CopyFault::Memory,
-    }
-}
+use med_outside::{CopyFault, Denied, Snap, Storage};
+use std::alloc::Global;
 
 /// Puts one of the objects that tell of a backup.
 pub(crate) fn put_meta<S: Storage>(

@@ -38,7 +38,7 @@ use Rattle.med_backup.proofs.MadeOf.{made_of}
 use Rattle.med_backup.specs.Walked.{CanBeWalked}
 use Rattle.med_backup.specs.declared.look.BackupError.{BackupError}
 use Rattle.med_backup.specs.declared.look.BackupError.TheVariants as error
-use Rattle.med_backup.specs.declared.place.CopyFault.TheVariants as copy
+use Rattle.med_outside.specs.declared.copy_fault.CopyFault.TheVariants as copy
 use Rattle.med_backup.proofs.Finished.{records_of, backup_puts, all_puts, finished, backup_of}
 use Rattle.med_commands.specs.Fault.{stop_of, stop_of_load, fault_for}
 use Rattle.med_commands.specs.Headline.{End, says}

@@ -2,7 +2,7 @@
 use Rattle.std.specs.Prelude.{ℕ, List, string_bytes}
 use Rattle.med_backup.specs.declared.look.BackupError.{BackupError}
 use Rattle.med_backup.specs.declared.look.BackupError.TheVariants as error
-use Rattle.med_backup.specs.declared.place.CopyFault.TheVariants as copy
+use Rattle.med_outside.specs.declared.copy_fault.CopyFault.TheVariants as copy
 use Rattle.med_index.specs.declared.errors.IndexError.{IndexError}
 use Rattle.med_index.specs.declared.errors.IndexError.TheVariants as index
 use Rattle.med_ini.specs.Options.{missing, bad_number, bad_name, unsupported}

@@ -11,10 +11,10 @@ use crate::load::LoadError;
 use crate::print::{say, say_named, write_pieces};
 use crate::print_config::say_config;
 use itoa::Buffer;
-use med_backup::{BackupError, CopyFault};
+use med_backup::BackupError;
 use med_base::{BackupName, ObjPath};
 use med_index::IndexError;
-use med_outside::{Sink, SinkFailed};
+use med_outside::{CopyFault, Sink, SinkFailed};
 use med_words::Usage;
 
 /// Why a command ended without its work or its text.

@@ -6,7 +6,8 @@ use Rattle.med_outside.specs.Ends.{Failed, Memory}
 use Rattle.med_outside.specs.World.{rose_of_node}
 use Rattle.med_backup.specs.Errors.{stop_of_fault}
 use Rattle.med_backup.specs.Plan.{Passed}
-use Rattle.med_backup.proofs.Denials.{from_ok, from_err, store_stop}
+use Rattle.med_outside.proofs.Answered.{from_ok, from_err}
+use Rattle.med_backup.proofs.Denials.{store_stop}
 use Rattle.med_backup.proofs.Copied.{all_have, files_keys, files_paths, files_names}
 use Rattle.med_backup.proofs.CopySteps.{files_stopped, text_stopped, manifest_stopped, all_made, all_put, copy_stop}
 use Rattle.med_backup.proofs.copy.copy_found.Goals as goal

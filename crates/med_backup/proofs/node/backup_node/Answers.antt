@@ -1,18 +1,16 @@
 use Rattle.std.proofs.Common.{◌≡◌, inr, Vec, Global, arith}
-use Rattle.std.proofs.lemmas.Result.{IfOk-weaker}
-use Rattle.med_backup.proofs.Denials.{from_ok}
+use Rattle.med_outside.proofs.Answered.{from_ok}
 use Rattle.med_backup.proofs.NodeSteps.{later_rose, left_later}
 use Rattle.med_manifest.specs.declared.manifest.FileRecord.{FileRecord}
 use Rattle.med_outside.specs.Ends.{seen}
 use Rattle.med_outside.specs.State.{OnlyReads}
 use Rattle.med_outside.specs.World.{rose_of_node}
 use Rattle.med_outside.proofs.EndsLemmas.{carried}
-use Rattle.med_backup.specs.BackedUp.{IsBackedUpFrom}
 use Rattle.med_backup.specs.Copies.{IsMadeBy}
 use Rattle.med_backup.specs.Errors.{stop_of}
 use Rattle.med_backup.specs.Plan.{Left, Leaves, opened_plan}
-use Rattle.med_backup.specs.NodeConfig.{node_config_of, opened_at, snap_at}
-use Rattle.med_backup.proofs.NodeSteps.{same_content, made_after}
+use Rattle.med_backup.specs.NodeConfig.{node_config_of, opened_at}
+use Rattle.med_backup.proofs.NodeSteps.{same_content, ok_and_counted}
 use Rattle.med_backup.proofs.node.backup_node.Goals as goal
 
 pub returns-clause-ok : goal.returns-clause-ok
@@ -24,26 +22,13 @@ returns-clause-ok g c =
     rw (c.as_str-base.ensures.value, c.as_str-bucket.ensures.value) at
     (from_ok c.open-opened.result c.in_ok-map_err.ensures.variant c.open-opened.ensures.ok) in
     let first = opened.moves in
-    let held = snap_at (g.N.Nodes.state c.args.nodes.now).snaps (node_config_of c.args.config.now)
-    c.args.name.now in
-    IfOk-weaker c.backup_opened.result
-    (λ (files : Vec FileRecord Global). IsBackedUpFrom c.args.config.now.layout
-    c.args.config.now.node
-    c.args.name.now held (g.S.Storage.state c.open-opened.new.self)
-    (g.S.Storage.state c.backup_opened.new.store) (g.S.Storage.stood c.open-opened.new.self)
-    (g.S.Storage.stood c.backup_opened.new.store) files.items)
-    (λ (files : Vec FileRecord Global). IsBackedUpFrom c.args.config.now.layout
-    c.args.config.now.node
-    c.args.name.now held
-    (opened_at (node_config_of c.args.config.now) (g.S.Storage.state c.args.store.now))
-    (g.S.Storage.state c.backup_opened.new.store) (g.S.Storage.stood c.args.store.now)
-    (g.S.Storage.stood c.backup_opened.new.store) files.items)
-    (λ files made. made_after c.args.config.now.layout c.args.config.now.node c.args.name.now held
-    (opened_at (node_config_of c.args.config.now) (g.S.Storage.state c.args.store.now))
+    let node_config = node_config_of c.args.config.now in
+    ok_and_counted node_config c.args.name.now (g.N.Nodes.state c.args.nodes.now)
+    (g.N.Nodes.state c.backup_opened.new.nodes) (g.S.Storage.state c.args.store.now)
     (g.S.Storage.state c.open-opened.new.self) (g.S.Storage.state c.backup_opened.new.store)
     (g.S.Storage.stood c.args.store.now) (g.S.Storage.stood c.open-opened.new.self)
-    (g.S.Storage.stood c.backup_opened.new.store) files.items first made)
-    c.backup_opened.ensures.ok
+    (g.S.Storage.stood c.backup_opened.new.store) first c.backup_opened.result
+    c.backup_opened.ensures.ok c.backup_opened.ensures.snapshot
 
 pub returns-clause-ends : goal.returns-clause-ends
 returns-clause-ends g c =

@@ -1,5 +1,5 @@
 use Rattle.med_outside.proofs.Passing.{moves_at_rest}
-use Rattle.med_backup.proofs.Denials.{on_err}
+use Rattle.med_outside.proofs.Answered.{on_err}
 use Rattle.med_backup.proofs.Placed.{none_placed, one_placed, maybe_placed}
 use Rattle.med_backup.proofs.place.place.Goals as goal
 

@@ -2,7 +2,7 @@ use Rattle.std.proofs.Common.{◌≡◌, ◌∙◌, [], ◌∷◌, ◌+◌, take
 use Rattle.std.proofs.lemmas.List.{take_all}
 use Rattle.med_base.proofs.Lists.{take_next, split_at}
 use Rattle.med_outside.proofs.Passing.{moves_at_rest, rests_on}
-use Rattle.med_backup.proofs.Denials.{on_err}
+use Rattle.med_outside.proofs.Answered.{on_err}
 use Rattle.med_backup.proofs.Placed.{key_at, nothing_placed, placed_on, some_on, all_are_some}
 use Rattle.med_backup.proofs.place.place_all.Goals as goal
 
