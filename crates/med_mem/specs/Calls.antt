@@ -1,5 +1,5 @@
 -- What the calls of a store in memory leave.
-use Rattle.std.specs.Prelude.{◌≡◌, ◌<◌, ◌+◌, ◌-◌, ◌^◌, ℕ, min, max, Bool, true, false, List, [], ◌∷◌, ◌++◌, Option, Some, None, Result, Ok, Err, IsErr, IsErrOf, IsTrue, is_some}
+use Rattle.std.specs.Prelude.{◌≡◌, ◌<◌, ◌+◌, ◌-◌, ◌^◌, ℕ, min, max, Bool, true, false, List, [], ◌∷◌, ◌++◌, Option, Some, None, Result, Ok, Err, IsErr, IsErrOf, IsTrue, is_some, IfSome}
 use Rattle.med_base.specs.Content.{with_object}
 use Rattle.med_outside.specs.Causes.{one_more}
 use Rattle.med_outside.specs.declared.denied.Denied.{Denied}
@@ -176,3 +176,7 @@ TicksOrRests path old new denied =
 abbrev pub CountsPut : {T : Type 0} → List ℕ → (old new : Told) → Result T Denied → Type 0
 CountsPut path old new result =
     Counts (due_put old.calls path old.to_fail) (after_put path old.to_fail) old new result
+
+-- the same of the put of what was uploaded, if anything was
+abbrev pub CountsCommit : {T : Type 0} → (old new : Told) → Result T Denied → Type 0
+CountsCommit old new result = IfSome old.upload (λ u. CountsPut u.path old new result)

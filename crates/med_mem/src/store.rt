@@ -11,7 +11,7 @@ ghost use Rattle.med_outside.specs.Storage.{stat_of};
 ghost use Rattle.med_outside.specs.declared.denied.Denied.TheVariants.{Memory};
 ghost use Rattle.med_mem.specs.Objects.{pairs, room_after};
 ghost use Rattle.med_mem.specs.Told.{content_of};
-ghost use Rattle.med_mem.specs.Calls.{new_at, Gains, with_added, with_clock, with_room_for, with_fault, uploading, IsOpened, IsPut, IsDeleted, Counts, CountsPut, Stays, Leaves, LeavesPut, Ticks, TicksOrRests, Rests};
+ghost use Rattle.med_mem.specs.Calls.{new_at, Gains, with_added, with_clock, with_room_for, with_fault, uploading, IsOpened, IsPut, IsDeleted, Counts, CountsCommit, CountsPut, Stays, Leaves, LeavesPut, Ticks, TicksOrRests, Rests};
 ghost use Rattle.med_mem.specs.Faults.{due_look, due_other};
 
 use crate::faults::{begin_delete, begin_look, begin_put};
@@ -391,8 +391,7 @@ impl Storage for MemStore {
         ensures ticks { OnOk result (Ticks self.old self.new) }
         ensures rests { IfSome self.old.upload
             (λ u. IfErr result (TicksOrRests u.path self.old self.new)) }
-        ensures counts { IfSome self.old.upload
-            (λ u. CountsPut u.path self.old self.new result) }
+        ensures counts { CountsCommit self.old self.new result }
         ensures cause { HasCause self.old.faults self.new.faults result }
     {
         match self.upload.take() {
