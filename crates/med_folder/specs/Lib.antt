@@ -5,3 +5,4 @@ pub mod Memory
 pub mod Place
 pub mod Snapshots
 pub mod Untold
+pub mod Uploads

@@ -1,12 +1,13 @@
 -- What a listing of folders shows.
-use Rattle.std.specs.Prelude.{ℕ, Bool, false, not, ◌&&◌, ◌||◌, List, Option, Some, None, IsTrue, IsSortedByKey}
+use Rattle.std.specs.Prelude.{◌≡◌, ℕ, Bool, false, not, ◌&&◌, ◌||◌, List, Option, Some, None, IfSome, IsTrue, IsSortedByKey}
 use Rattle.std.specs.List.{All}
 use Rattle.std.specs.Ordering.{nat_cmp}
 use Rattle.std.specs.Cmp.Lexicographic.{slice_cmp}
 use Rattle.med_base.specs.Content.{is_under}
 use Rattle.med_folder.specs.Place.{is_unfinished}
-use Rattle.med_outside.specs.Pages.{is_behind}
+use Rattle.med_outside.specs.Pages.{is_behind, last_path}
 use Rattle.med_outside.specs.declared.storage.Entry.{Entry}
+use Rattle.med_outside.specs.declared.storage.Page.{Page}
 use Rattle.med_outside.specs.declared.storage.PageEnd.{PageEnd}
 
 -- the path begins with the text, comes behind the end of a page, and isn't in the folder of
@@ -33,3 +34,7 @@ AreShown text after entries = All (λ (e : Entry). IsTrue (is_shown text after e
 -- in byte order of the paths
 abbrev pub AreInOrder : List Entry → Type 0
 AreInOrder entries = IsSortedByKey (λ (e : Entry). e.path) (slice_cmp nat_cmp) entries
+
+-- a page behind which entries are left ends at its last path
+abbrev pub EndsAtLast : Page → Type 0
+EndsAtLast page = IfSome page.end (λ (end : PageEnd). end.path ≡ last_path page.entries.items)

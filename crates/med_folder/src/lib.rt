@@ -28,6 +28,7 @@ mod uploads;
 mod waiting;
 mod walk;
 mod ways;
+mod written;
 
 pub use nodes::FolderNodes;
 pub use real_files::RealFiles;

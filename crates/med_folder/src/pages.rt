@@ -1,7 +1,7 @@
 // Listings in pages.
 ghost use Rattle.std.specs.Prelude.{◌≡◌, ◌+◌, ◌<◌, ◌≤◌, IfOk, IfSome, OnOk};
 ghost use Rattle.med_outside.specs.Pages.{CountsDown, last_path, left_of, shown};
-ghost use Rattle.med_folder.specs.Listing.{AreShown, AreInOrder};
+ghost use Rattle.med_folder.specs.Listing.{AreShown, AreInOrder, EndsAtLast};
 
 use crate::walk::{Listed, PAGE, Pending, count_files, first_pending, next_entries, next_file};
 use med_base::ObjPath;
@@ -75,8 +75,7 @@ pub(crate) fn page_behind<R: Files + AllocGlobal + Clone + Drop>(
     ensures shown { IfOk result
         (λ page. AreShown under.now (shown after.entry) page.entries.items) }
     ensures order { IfOk result (λ page. AreInOrder page.entries.items) }
-    ensures path { IfOk result (λ page. IfSome page.end
-        (λ end. end.path ≡ last_path page.entries.items)) }
+    ensures path { IfOk result EndsAtLast }
 {
     let listed = Listed {
         bucket,

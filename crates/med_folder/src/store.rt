@@ -1,12 +1,11 @@
 // A bucket as a folder.
-ghost use Rattle.std.specs.Prelude.{◌≡◌, [], true, None, Some, IfOk, IfSome, IsErrOf, OnErr, OnOk, option_map, string_bytes};
-ghost use Rattle.med_outside.specs.declared.denied.Denied.TheVariants.{Failed, Memory};
-ghost use Rattle.med_outside.specs.Pages.{CountsDown, IsPage, last_path, shown};
+ghost use Rattle.std.specs.Prelude.{◌≡◌, [], true, None, Some, IfOk, IfSome, OnErr, OnOk, option_map, string_bytes};
+ghost use Rattle.med_outside.specs.Pages.{CountsDown, IsPage, shown};
 ghost use Rattle.med_outside.specs.Pieces.{AnswersPiece, EndsInRange, begun, with_piece, with_upload};
-ghost use Rattle.med_outside.specs.State.{ChangesOnce, IsCalled, OnlyReads, bucket_of};
+ghost use Rattle.med_outside.specs.State.{IsCalled, OnlyReads, bucket_of};
 ghost use Rattle.med_base.specs.Part.{owner_of};
-ghost use Rattle.med_outside.specs.Storage.{AnswersBytes, AnswersStat, Delete, MayDelete, MayPut, Put};
-ghost use Rattle.med_folder.specs.Listing.{AreShown, AreInOrder};
+ghost use Rattle.med_outside.specs.Storage.{AnswersBytes, AnswersDelete, AnswersPut, AnswersStat};
+ghost use Rattle.med_folder.specs.Listing.{AreShown, AreInOrder, EndsAtLast};
 ghost use Rattle.med_folder.specs.Place.{bucket_folder, is_object_path};
 ghost use Rattle.med_folder.specs.Untold.{untold, never};
 
@@ -19,7 +18,7 @@ use crate::pieces::Reading;
 use crate::seconds::second_or;
 use crate::tree::Tree;
 use crate::uploads::Unfinished;
-use med_base::{Layout, NoMemory, ObjPath, PathKind};
+use med_base::{Fingerprint, Layout, NoMemory, ObjPath, PathKind};
 use med_outside::{Denied, Page, PageEnd, Piece, Stat, Storage};
 use std::alloc::Global;
 use std::fs::{File, Files};
@@ -175,12 +174,8 @@ impl<R: Files<File = File> + Clock + AllocGlobal + Clone + Drop> Storage for Fol
 
     /// As the trait says. A path that isn't an object's is a fault, and so is a link on the way.
     fn put(&mut self, alloc: Global, path: &ObjPath, bytes: &[u8]) -> Result<u64, Denied>
-        ensures ok { IfOk result
-            (Put path.now bytes.now (untold self.old) (untold self.new) never never) }
-        ensures failed { IsErrOf result Denied.Failed
-            → MayPut path.now bytes.now (untold self.old) (untold self.new) never never }
-        ensures memory { IsErrOf result Denied.Memory
-            → ChangesOnce [] (untold self.old) (untold self.new) never never }
+        ensures answer { AnswersPut path.now bytes.now result (untold self.old) (untold self.new)
+            never never }
         ensures called { IsCalled (untold self.old) (untold self.new) result }
         ensures place { OnOk result (is_object_path path.now ≡ true) }
     {
@@ -200,14 +195,8 @@ impl<R: Files<File = File> + Clock + AllocGlobal + Clone + Drop> Storage for Fol
 
     /// As the trait says, with the faults of `stat`. Only a plain file is removed; folders stay.
     fn delete(&mut self, alloc: Global, path: &ObjPath) -> Result<(), Denied>
-        ensures ok { OnOk result
-            (Delete path.now (untold self.old) (untold self.new) never never) }
-        ensures failed { IsErrOf result Denied.Failed
-            → MayDelete path.now (untold self.old) (untold self.new) never never }
-        ensures memory { IsErrOf result Denied.Memory
-            → ChangesOnce [] (untold self.old) (untold self.new) never never }
-        ensures full { IsErrOf result Denied.Memory
-            → IfSome (untold self.old).room (λ room. room ≡ 0) }
+        ensures answer { AnswersDelete path.now result (untold self.old) (untold self.new)
+            never never }
         ensures called { IsCalled (untold self.old) (untold self.new) result }
         ensures place { OnOk result (is_object_path path.now ≡ true) }
     {
@@ -238,8 +227,7 @@ impl<R: Files<File = File> + Clock + AllocGlobal + Clone + Drop> Storage for Fol
         ensures shown { IfOk result
             (λ page. AreShown under.now (shown after.entry) page.entries.items) }
         ensures order { IfOk result (λ page. AreInOrder page.entries.items) }
-        ensures path { IfOk result (λ page. IfSome page.end
-            (λ end. end.path ≡ last_path page.entries.items)) }
+        ensures path { IfOk result EndsAtLast }
     {
         let outcome = page_behind(&self.tree.rt, alloc, self.folder.as_str(), under, after);
         counted(&mut self.faults, outcome)
@@ -295,7 +283,7 @@ impl<R: Files<File = File> + Clock + AllocGlobal + Clone + Drop> Storage for Fol
         Ok(())
     }
 
-    /// As the trait says. Where there is no upload, it is a fault.
+    /// As the trait says. Where there is no upload, or its fingerprint was told, it is a fault.
     fn append(&mut self, _alloc: Global, piece: &Piece) -> Result<(), Denied>
         ensures ok { OnOk result
             (OnlyReads (with_upload (with_piece piece.now (untold self.old).upload)
@@ -309,19 +297,22 @@ impl<R: Files<File = File> + Clock + AllocGlobal + Clone + Drop> Storage for Fol
         Ok(())
     }
 
+    /// As the trait says. A piece that is appended behind it is a fault.
+    fn uploaded(&mut self) -> Option<Fingerprint> {
+        let Some(upload) = self.upload.take() else {
+            return None;
+        };
+        let (upload, fingerprint) = upload.ended();
+        self.upload = Some(upload);
+        Some(fingerprint)
+    }
+
     /// As the trait says, with the faults of `put`. Where there is no upload, or its file hasn't as
     /// many bytes as were appended, it is a fault.
     fn commit(&mut self, alloc: Global) -> Result<u64, Denied>
-        ensures ok { IfOk result
-            (λ at. IfSome (untold self.old).upload
-            (λ u. Put u.path u.bytes (with_upload None (untold self.old)) (untold self.new)
-            never never at)) }
-        ensures failed { IsErrOf result Denied.Failed
-            → IfSome (untold self.old).upload
-            (λ u. MayPut u.path u.bytes (with_upload None (untold self.old)) (untold self.new)
-            never never) }
-        ensures memory { IsErrOf result Denied.Memory
-            → ChangesOnce [] (with_upload None (untold self.old)) (untold self.new) never never }
+        ensures answer { IfSome (untold self.old).upload
+            (λ u. AnswersPut u.path u.bytes result (with_upload None (untold self.old))
+            (untold self.new) never never) }
         ensures called { IsCalled (untold self.old) (untold self.new) result }
     {
         self.reading = None;

@@ -1,5 +1,6 @@
 // Objects whose files are written piece by piece.
 ghost use Rattle.std.specs.Prelude.{◌≡◌, ◌++◌, true, Some, IfOk, OnOk};
+ghost use Rattle.med_base.specs.Fingerprint.{fingerprint_of};
 ghost use Rattle.med_outside.specs.Pieces.{begun, with_piece};
 ghost use Rattle.med_folder.specs.Place.{is_object_path};
 
@@ -7,7 +8,8 @@ use crate::files::{create_anew, remove_there, settle};
 use crate::locks::{Change, part_place};
 use crate::objects::place_of;
 use crate::tree::Tree;
-use med_base::Flow;
+use crate::written::Written;
+use med_base::Fingerprint;
 use std::alloc::Global;
 use std::fs::{File, Files, Metadata};
 use std::io;
@@ -22,7 +24,7 @@ pub(crate) struct Unfinished {
     file: File,
     part: String,
     path: String,
-    flow: Flow,
+    written: Written,
 }
 
 impl Model for Unfinished {
@@ -31,23 +33,44 @@ impl Model for Unfinished {
 
     ghost Value = { Upload };
 
-    ghost view = { λ u. record { path = string_bytes u.path; bytes = u.flow } };
+    ghost use Rattle.med_folder.specs.Uploads.{bytes_of};
+
+    ghost view = { λ u. record { path = string_bytes u.path; bytes = bytes_of u.written } };
 }
 
 impl Unfinished {
-    // Writes bytes behind those so far. After a refusal some of them may have been written.
+    // Writes bytes behind those so far. Where its fingerprint was told, it refuses. After a refusal some
+    // of them may have been written.
     fn append(&mut self, bytes: &[u8]) -> io::Result<()>
         ensures { OnOk result (self.new ≡ record {
           path = self.old.path;
           bytes = self.old.bytes ++ bytes.now;
         }) }
     {
-        if self.flow.size().checked_add(bytes.len() as u64).is_none() {
-            return Err(io::Error::from(ErrorKind::FileTooLarge));
-        }
-        self.file.write_all(bytes)?;
-        self.flow.add(bytes);
-        Ok(())
+        self.written.add(bytes)?;
+        self.file.write_all(bytes)
+    }
+
+    /// The same upload, to which no more bytes are added, and the fingerprint of its bytes.
+    pub(crate) fn ended(self) -> (Unfinished, Fingerprint)
+        ensures same { result.0 ≡ self }
+        ensures fingerprint { result.1 ≡ fingerprint_of self.bytes }
+    {
+        let Unfinished {
+            file,
+            part,
+            path,
+            written,
+        } = self;
+        let ended = written.end();
+        let fingerprint = ended.fingerprint();
+        let upload = Unfinished {
+            file,
+            part,
+            path,
+            written: Written::Whole(ended),
+        };
+        (upload, fingerprint)
     }
 }
 
@@ -72,7 +95,7 @@ impl<R: Files<File = File>> Tree<R> {
             file,
             part,
             path,
-            flow: Flow::new(),
+            written: Written::none(),
         })
     }
 
@@ -136,13 +159,14 @@ impl<R: Files<File = File> + Clock> Tree<R> {
             file,
             part,
             path,
-            flow,
+            written,
         } = upload;
-        let whole = (path.as_str(), part.as_str(), flow.size());
+        let fingerprint = written.end().fingerprint();
+        let whole = (path.as_str(), part.as_str(), fingerprint.size);
         match self.take_place(alloc, bucket, whole, file, second) {
             Ok(metadata) => {
                 self.prints
-                    .note_renamed(&self.rt, alloc, &metadata, flow.end());
+                    .note_renamed(&self.rt, alloc, &metadata, fingerprint);
             }
             Err(error) => {
                 let _ = remove_there(&self.rt, part.as_str());

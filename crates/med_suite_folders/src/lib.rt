@@ -14,4 +14,6 @@ mod objects;
 #[cfg(test)]
 mod pages;
 #[cfg(test)]
+mod sizes;
+#[cfg(test)]
 mod uploads;

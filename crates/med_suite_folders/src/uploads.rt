@@ -3,13 +3,12 @@ use med_base::{Fingerprint, Layout, ObjPath};
 use med_folder::FolderStore;
 use med_outside::{Denied, PIECE, Piece, Storage};
 use med_suite_rows::calls::{entries_text, refusal};
-use med_suite_rows::places::many_bytes;
 use med_suite_rows::{places, rows};
 use std::alloc::Global;
 use std::fs::{File, Files};
 use std::time::Clock;
 
-fn piece_of(alloc: Global, bytes: &[u8]) -> Option<Piece> {
+pub(crate) fn piece_of(alloc: Global, bytes: &[u8]) -> Option<Piece> {
     if bytes.len() > PIECE {
         return None;
     }
@@ -89,6 +88,17 @@ fn is_list<R: Files<File = File> + Clock + AllocGlobal + Clone + Drop>(
     }
 }
 
+// Whether the fingerprint of the upload is that of a text, or there is no upload.
+fn is_fingerprinted<R: Files<File = File> + Clock + AllocGlobal + Clone + Drop>(
+    store: &mut FolderStore<R>,
+    wanted: &str,
+) -> bool {
+    match store.uploaded() {
+        Some(fingerprint) => fingerprint == Fingerprint::of(wanted.as_bytes()),
+        None => wanted == "nothing",
+    }
+}
+
 // A call of an upload answers `done` or a refusal: `begin PATH`, `append TEXT`, `commit` or `drop`.
 fn is_step<R: Files<File = File> + Clock + AllocGlobal + Clone + Drop>(
     alloc: Global,
@@ -116,7 +126,7 @@ fn is_step<R: Files<File = File> + Clock + AllocGlobal + Clone + Drop>(
 }
 
 // A call of an upload, or one that may come while it is under way: `put PATH=TEXT`, `object PATH`
-// of `get` and `stat`, or `sizes UNDER`.
+// of `get` and `stat`, `sizes UNDER`, or `uploaded`, whose answer is a text that has the fingerprint.
 fn is_answered<R: Files<File = File> + Clock + AllocGlobal + Clone + Drop>(
     alloc: Global,
     store: &mut FolderStore<R>,
@@ -128,6 +138,7 @@ fn is_answered<R: Files<File = File> + Clock + AllocGlobal + Clone + Drop>(
         "put" => is_put(alloc, store, rest, wanted),
         "object" => is_object(alloc, store, rest, wanted),
         "sizes" => is_list(alloc, store, rest, wanted),
+        "uploaded" => Some(is_fingerprinted(store, wanted)),
         _ => is_step(alloc, store, word, rest, wanted),
     }
 }
@@ -150,7 +161,7 @@ fn is_done<R: Files<File = File> + Clock + AllocGlobal + Clone + Drop>(
 
 // The first row that is answered otherwise, or can't be done, where the bucket was opened below the
 // base `uploads`.
-fn first_wrong<'a, R: Files<File = File> + Clock + AllocGlobal + Clone + Drop>(
+pub(crate) fn first_wrong<'a, R: Files<File = File> + Clock + AllocGlobal + Clone + Drop>(
     rt: &R,
     alloc: Global,
     store: &mut FolderStore<R>,
@@ -186,8 +197,12 @@ append dropped => done
 drop => done
 absent uploads/done/.medusa-tmp/part-a
 drop => done
+uploaded => nothing
 begin a/x => done
-append second => done
+append sec => done
+append ond => done
+uploaded => second
+uploaded => second
 commit => done
 object a/x => second
 begin a/x => done
@@ -202,6 +217,7 @@ object b => put
 commit => done
 object b => abcd
 begin empty => done
+uploaded => 
 commit => done
 object empty => 
 begin % => done
@@ -219,7 +235,8 @@ fn an_upload_is_an_object_once_it_is_committed(rt: HostRuntime) {
 }
 
 // After a fault there is no upload and no file of it. A file that isn't as long as what was
-// appended is no object; a link on the way is a fault, also one that was made since.
+// appended is no object; a link on the way is a fault, also one that was made since, and so is a piece
+// behind the fingerprint.
 const REFUSED: &str = "\
 append x => failed
 commit => failed
@@ -237,9 +254,18 @@ append abc => done
 commit => failed
 absent uploads/refused/.medusa-tmp/part-far
 absent uploads/away/x
+begin a => done
+append abc => done
+uploaded => abc
+append d => failed
+uploaded => nothing
+commit => failed
+absent uploads/refused/.medusa-tmp/rest
+object a => absent
 file uploads/refused/.medusa-tmp/rest=left
 begin a => done
 append abc => done
+uploaded => abc
 file uploads/refused/.medusa-tmp/rest=more
 commit => failed
 absent uploads/refused/.medusa-tmp/rest
@@ -268,128 +294,6 @@ fn an_upload_that_is_refused_leaves_nothing(rt: HostRuntime) {
         first_wrong(&rt, rt.alloc(), &mut store, "refused", REFUSED),
         None
     );
-}
-
-// Stores bytes in pieces, each as long as a piece may be but for the last one.
-fn upload<R: Files<File = File> + Clock + AllocGlobal + Clone + Drop>(
-    alloc: Global,
-    store: &mut FolderStore<R>,
-    path: &ObjPath,
-    bytes: &[u8],
-) -> Option<u64> {
-    store.begin(alloc, path).ok()?;
-    for part in bytes.chunks(PIECE) {
-        store.append(alloc, &piece_of(alloc, part)?).ok()?;
-    }
-    store.commit(alloc).ok()
-}
-
-// The bytes of an object, by pieces up to the first one that isn't full.
-fn read_by_pieces<R: Files<File = File> + Clock + AllocGlobal + Clone + Drop>(
-    alloc: Global,
-    store: &mut FolderStore<R>,
-    path: &ObjPath,
-) -> Option<Vec<u8>> {
-    let mut bytes = Vec::new(alloc);
-    for _ in 0..u64::MAX {
-        let piece = store.get_piece(alloc, path, bytes.len() as u64).ok()??;
-        bytes.extend_from_slice(piece.bytes()).ok()?;
-        if piece.bytes().len() < PIECE {
-            return Some(bytes);
-        }
-    }
-    None
-}
-
-// Whether the object alone is listed under its path, with that size and second.
-fn is_listed<R: Files<File = File> + Clock + AllocGlobal + Clone + Drop>(
-    alloc: Global,
-    store: &mut FolderStore<R>,
-    path: &ObjPath,
-    size: usize,
-    second: u64,
-) -> Option<bool> {
-    match store
-        .list_page(alloc, path.as_str(), None)
-        .ok()?
-        .entries
-        .as_slice()
-    {
-        [entry] => Some(entry.size == size as u64 && entry.second == second),
-        _ => Some(false),
-    }
-}
-
-// Whether bytes are stored in pieces, and read as what they are, whole and in pieces.
-fn is_kept<R: Files<File = File> + Clock + AllocGlobal + Clone + Drop>(
-    alloc: Global,
-    store: &mut FolderStore<R>,
-    path: &ObjPath,
-    bytes: &[u8],
-) -> Option<bool> {
-    let second = upload(alloc, store, path, bytes)?;
-    let is_dated = is_listed(alloc, store, path, bytes.len(), second)?;
-    let whole = store.get(alloc, path).ok()??;
-    let pieces = read_by_pieces(alloc, store, path)?;
-    let is_read = whole.as_slice() == bytes && pieces.as_slice() == bytes;
-    Some(is_read && is_dated)
-}
-
-fn is_size_kept<R: Files<File = File> + Clock + AllocGlobal + Clone + Drop>(
-    alloc: Global,
-    store: &mut FolderStore<R>,
-    size: &str,
-) -> Option<bool> {
-    let path = ObjPath::of(alloc, "sized").ok()?;
-    let bytes = many_bytes(alloc, size.parse::<u32>().ok()? as usize)?;
-    is_kept(alloc, store, &path, bytes.as_slice())
-}
-
-// The first size of which an object isn't kept.
-fn first_lost<'a, R: Files<File = File> + Clock + AllocGlobal + Clone + Drop>(
-    alloc: Global,
-    store: &mut FolderStore<R>,
-    sizes: &'a str,
-) -> Option<&'a str> {
-    for size in sizes.split(' ') {
-        if is_size_kept(alloc, store, size) != Some(true) {
-            return Some(size);
-        }
-    }
-    None
-}
-
-#[test]
-fn an_object_is_stored_and_read_in_pieces_byte_for_byte(rt: HostRuntime) {
-    let mut store = FolderStore::new(rt.alloc(), rt);
-    assert_eq!(rt;
-        first_wrong(
-            &rt,
-            rt.alloc(),
-            &mut store,
-            "small",
-            "object sized => absent"
-        ),
-        None
-    );
-    let sizes = "0 1 1048575 1048576 1048577";
-    assert_eq!(rt; first_lost(rt.alloc(), &mut store, sizes), None);
-}
-
-#[test]
-fn an_object_of_some_pieces_is_stored_and_read(rt: HostRuntime) {
-    let mut store = FolderStore::new(rt.alloc(), rt);
-    assert_eq!(rt;
-        first_wrong(
-            &rt,
-            rt.alloc(),
-            &mut store,
-            "large",
-            "object sized => absent"
-        ),
-        None
-    );
-    assert_eq!(rt; first_lost(rt.alloc(), &mut store, "3145745"), None);
 }
 
 // Behind the end of a file there is nothing, and a place that the system has no number for is a

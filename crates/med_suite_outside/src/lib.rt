@@ -14,6 +14,8 @@ mod folders;
 #[cfg(test)]
 mod listings;
 #[cfg(test)]
+mod notes;
+#[cfg(test)]
 mod storages;
 #[cfg(test)]
 mod writing;
