@@ -97,8 +97,8 @@ returns-in-Ok-backup_node-clause-ends g c =
           (printed a b (report_line c.args.name.now node_config.node files)
           (IsDone node_config c.args.name.now a b files) c.print_line.result
           c.print_line.ensures.step
-          (done_of node_config c.args.name.now a b files c.in-Ok-backup_node.ensures.ok
-          c.in-Ok-backup_node.ensures.snapshot)
+          (done_of node_config c.args.name.now a b files c.in-Ok-backup_node.ensures.ok.0
+          c.in-Ok-backup_node.ensures.ok.1)
           (rw c.as_slice.ensures.value at c.print_line.ensures.ok)
           (rw c.as_slice.ensures.value at c.print_line.ensures.err)),
     ))
