@@ -12,8 +12,9 @@ ghost use Rattle.med_manifest.specs.Refusals.{IsRefused, IsNoManifest};
 
 use crate::ManifestError;
 use crate::records::records_of;
-use crate::shape::{named_files, read_tree};
+use crate::shape::files_named;
 use crate::written::manifest_bytes;
+use json::Scratch;
 use med_base::{BackupName, FileKey, Fingerprint, Fqdn, Layout, NoMemory, ObjPath};
 use std::alloc::Global;
 
@@ -75,8 +76,8 @@ impl Manifest {
         ensures refused { IfErr result
             (WhyIs (λ _. IsNoManifest layout.now node.now name.now bytes.now)) }
     {
-        let value = read_tree(alloc, bytes)?;
-        let named = named_files(alloc, &value)?;
+        let mut scratch = Scratch::new(alloc);
+        let named = files_named(alloc, bytes, &mut scratch)?;
         let files = records_of(alloc, layout, node, name, named.as_slice())?;
         Ok(Manifest { files })
     }
