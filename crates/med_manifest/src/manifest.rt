@@ -1,13 +1,11 @@
 // The files of a backup.
-ghost use Rattle.std.specs.Prelude.{◌≡◌, ℕ, List, Some, IfOk, IfErr, map};
-ghost use Rattle.std.specs.List.{AllByRecursion};
+ghost use Rattle.std.specs.Prelude.{◌≡◌, Some, IfOk, IfErr, map};
 ghost use Rattle.std.specs.Str.{IsUtf8};
 ghost use Rattle.serde_json.specs.Read.{read};
-ghost use Rattle.med_base.specs.Key.{AreRising, IsKey};
+ghost use Rattle.med_base.specs.Key.{AreRising};
 ghost use Rattle.med_base.specs.Memory.{WhyIs};
 ghost use Rattle.med_manifest.specs.Written.{manifest_data, manifest_text};
-ghost use Rattle.med_manifest.specs.declared.manifest.FileRecord.{FileRecord};
-ghost use Rattle.med_manifest.specs.Manifest.{IsManifest, IsPathOf};
+ghost use Rattle.med_manifest.specs.Manifest.{IsManifest, NamesNoOther, NamesThese};
 ghost use Rattle.med_manifest.specs.Refusals.{IsRefused, IsNoManifest};
 
 use crate::ManifestError;
@@ -43,17 +41,9 @@ impl Manifest {
         ensures utf8 { IfOk result (λ text. IsUtf8 text.items) }
         ensures reads_back { IfOk result
             (λ text. read text.items ≡ Some (manifest_data self.now.files.items)) }
-        ensures names { IfOk result
-            (λ text. (before f n : List ℕ)
-            → AllByRecursion (λ r. IsKey r.key) self.now.files.items
-            → AllByRecursion (λ r. IsPathOf before f n r.key r.path) self.now.files.items
-            → IsManifest before f n text.items self.now.files.items) }
+        ensures names { IfOk result (λ text. NamesThese text.items self.now.files.items) }
         ensures names_no_other { IfOk result
-            (λ text. (before f n : List ℕ)
-            → AllByRecursion (λ r. IsKey r.key) self.now.files.items
-            → AllByRecursion (λ r. IsPathOf before f n r.key r.path) self.now.files.items
-            → (files : List FileRecord) → IsManifest before f n text.items files
-            → files ≡ self.now.files.items) }
+            (λ text. NamesNoOther text.items self.now.files.items) }
     {
         let text = manifest_bytes(alloc, self.files.as_slice())?;
         Ok(text)
