@@ -17,7 +17,7 @@ use Rattle.med_base.proofs.Lists.{all_split, all_with}
 use Rattle.med_backup.specs.Copies.{ChangeLists, IsNothing}
 use Rattle.med_backup.specs.NodeConfig.{NodeConfig, opened_at}
 use Rattle.med_backup.specs.Plan.{Passed}
-use Rattle.med_index.specs.Rebuilt.{AreOfIndex, IsFirstBad, IsOfIndex, IsRebuildOf}
+use Rattle.med_index.specs.Rebuilt.{AreOfIndex, IsFirstBad, IsOfIndex}
 use Rattle.med_index.specs.Rows.{AreNodes, HasBackup}
 use Rattle.med_manifest.specs.Listed.{paths_of}
 use Rattle.med_manifest.specs.Mend.{is_manifest_outside, name_in}

@@ -13,10 +13,11 @@ use Rattle.med_base.specs.Effects.{Effect, Stores, Removes, applied, after_all}
 use Rattle.med_base.specs.Kinds.{Kind, Shared, Own, Meta, Entry, Latest, Stray, Other, IsFqdn}
 use Rattle.med_base.specs.Part.{owner_in, owner_of}
 use Rattle.med_base.proofs.Lists.{all_with}
-use Rattle.med_index.specs.Rebuilt.{AreOfIndex, IsOfIndex, IsRebuildOf}
+use Rattle.med_index.specs.Rebuilt.{AreOfIndex, IsOfIndex}
 use Rattle.med_index.specs.Rows.{AreNodes, HasBackup}
 use Rattle.med_manifest.specs.Index.{IsIndexExact, bytes_in}
 use Rattle.med_manifest.specs.Mend.{changes_of_mend}
+use Rattle.med_manifest.specs.Rebuild.{IsRebuildOf}
 use Rattle.med_manifest.proofs.ByKind.{FinishedByKind, HasPath, NodeByKind, at, folder, manifest, node_by_kind, under}
 use Rattle.med_manifest.proofs.Elsewhere.{AreElsewhere, applied_append, get_elsewhere}
 use Rattle.med_manifest.proofs.Exacts.{given_same, manifests_by_name, mend_same}
@@ -90,9 +91,7 @@ module _ (before : List ℕ) (c d : Content) (g : List ℕ) (node : IsFqdn g)
 
 one_exact : (before : List ℕ) (c : Content) (f : List ℕ) (xs : List Effect) → IsFqdn f
     → IsRebuildOf before c f xs → IsIndexExact before (applied xs c) f
-one_exact before c f xs node is =
-    subst (λ (l : List Effect). IsIndexExact before (applied l c) f) (sym is.list)
-    (reaches_exact before c f node is.entries is.given is.of_mend is.of_entries)
+one_exact before c f xs node is = reaches_exact before c f xs node is.made
 
 other_exact : (before : List ℕ) (c : Content) (f g : List ℕ) (xs : List Effect) → IsFqdn g
     → (f ≢ g) → AreOfIndex before f xs → IsIndexExact before c g

@@ -5,7 +5,8 @@ use Rattle.med_base.specs.Content.{Content}
 use Rattle.med_base.specs.Effects.{Effect, after_all}
 use Rattle.med_backup.specs.Copies.{ChangeLists, IsNothing, FollowedBy, IsMadeBy}
 use Rattle.med_backup.proofs.Made.{made_on}
-use Rattle.med_index.specs.Rebuilt.{AreOfIndex, IsFirstBad, IsRebuild, IsRebuildOf, stores, removals}
+use Rattle.med_index.specs.Rebuilt.{AreOfIndex, IsFirstBad, IsRebuild, stores, removals}
+use Rattle.med_manifest.specs.Rebuild.{IsRebuildOf}
 use Rattle.med_index.specs.declared.report.IndexReport.{IndexReport}
 use Rattle.med_index.specs.declared.errors.IndexError.{IndexError}
 use Rattle.med_index.specs.declared.errors.IndexError.TheVariants as index

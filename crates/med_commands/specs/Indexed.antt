@@ -8,9 +8,10 @@ use Rattle.med_base.specs.Effects.{Effect, after_all}
 use Rattle.med_base.specs.NameOrder.{name_cmp}
 use Rattle.med_backup.specs.Copies.{ChangeLists, IsNothing, FollowedBy}
 use Rattle.med_backup.specs.Plan.{Passed}
-use Rattle.med_index.specs.Rebuilt.{AreOfIndex, IsFirstBad, IsOfIndex, IsRebuildOf, stores, removals}
+use Rattle.med_index.specs.Rebuilt.{AreOfIndex, IsFirstBad, IsOfIndex, stores, removals}
 use Rattle.med_index.specs.Rows.{AreNodes, HasBackup}
 use Rattle.med_manifest.specs.Index.{IsIndexExact}
+use Rattle.med_manifest.specs.Rebuild.{IsRebuildOf}
 use Rattle.med_manifest.specs.declared.why.ManifestWhy.{ManifestWhy}
 use Rattle.med_outside.specs.Causes.{RoseOrFull}
 use Rattle.med_outside.specs.Ends.{Device, Files, Nodes, Storage, Output, Memory, on, Refusal, BadManifest, Plan, last, step, then, said_as}

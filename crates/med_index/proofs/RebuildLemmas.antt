@@ -25,14 +25,13 @@ use Rattle.med_manifest.specs.Index.{Entries, IsGiven, given_to}
 use Rattle.med_manifest.specs.Listed.{paths_of, removes}
 use Rattle.med_manifest.specs.Mend.{changes_of_mend, has_bytes, put_unless}
 use Rattle.med_manifest.specs.Reads.{DoAllRead}
-use Rattle.med_manifest.specs.Rebuild.{is_entry_of_node, not_given, put_entries, put_entry}
+use Rattle.med_manifest.specs.Rebuild.{IsRebuildOf, is_entry_of_node, not_given, put_entries, put_entry}
 use Rattle.med_manifest.proofs.Gets.{cmp_itself, from_same, same_itself}
 use Rattle.med_manifest.proofs.Givens.{entries_given, given_entries}
 use Rattle.med_manifest.proofs.Members.{get_kept}
 use Rattle.med_index.specs.Given.{AreRightly, AreSizes, Given, WasGiven, bytes_to_put, size_in, unless_stands}
 use Rattle.med_index.specs.Planned.{ArePlanned, IsPlannedAs}
 use Rattle.med_index.specs.Plans.{deletes_of, delete_unless, put_of, puts_of}
-use Rattle.med_index.specs.Rebuilt.{IsRebuildOf}
 use Rattle.med_index.specs.declared.changes.Planned.{Planned}
 use Rattle.med_index.specs.declared.changes.Planned.TheVariants.{Put, Delete}
 use Rattle.med_index.proofs.PlanLemmas.{planned_apart}
@@ -338,18 +337,20 @@ module _ (before f : List ℕ) (c : Content) where
           let puts = puts_made c E m.entries ordered values_alike zs third in
           record {
             read = read;
-            entries = E;
-            given = is_given;
-            of_mend = mended.0;
-            of_entries = puts.0;
-            list =
-                is ∙ ap (λ l. l ++ ds) mended.1
-                ∙ ap (λ l. changes_of_mend before c f [] mended.0 ++ l)
-                (parts
-                ∙ ap (λ l. l ++ zs)
-                (deletes_made m (keys_of sizes.entries) ys second ∙ ap removes deletes_alike)
-                ∙ ap (λ l. removes (not_given before c f E) ++ l)
-                (puts.1 ∙ ap (λ ks. put_entries c E ks puts.0) keys_alike));
+            made = record {
+              entries = E;
+              given = is_given;
+              of_mend = mended.0;
+              of_entries = puts.0;
+              list =
+                  is ∙ ap (λ l. l ++ ds) mended.1
+                  ∙ ap (λ l. changes_of_mend before c f [] mended.0 ++ l)
+                  (parts
+                  ∙ ap (λ l. l ++ zs)
+                  (deletes_made m (keys_of sizes.entries) ys second ∙ ap removes deletes_alike)
+                  ∙ ap (λ l. removes (not_given before c f E) ++ l)
+                  (puts.1 ∙ ap (λ ks. put_entries c E ks puts.0) keys_alike));
+            };
           }
 
 -- ---- plans that grow

@@ -15,7 +15,7 @@ use Rattle.med_base.specs.NameOrder.{name_cmp}
 use Rattle.med_base.proofs.Bools.{same_bytes}
 use Rattle.med_base.proofs.Lists.{all_append, all_with}
 use Rattle.med_manifest.specs.Mend.{changes_of_mend}
-use Rattle.med_manifest.specs.Rebuild.{is_entry_of_node}
+use Rattle.med_manifest.specs.Rebuild.{IsRebuildOf, is_entry_of_node}
 use Rattle.med_index.specs.declared.changes.Planned.{Planned}
 use Rattle.med_index.specs.declared.changes.Planned.TheVariants.{Put, Delete}
 use Rattle.med_index.specs.declared.errors.IndexError.{IndexError}
@@ -28,7 +28,7 @@ use Rattle.med_index.specs.Gathered.{IsGathered, TellsUnread}
 use Rattle.med_index.specs.Given.{AreOfNode, Given}
 use Rattle.med_index.specs.Planned.{ArePlanned, IsOfIndexPlan, IsPlannedAs, planned_path}
 use Rattle.med_index.specs.Plans.{agrees, count_of, delete_unless, deletes_of, is_put, put_of, puts_of}
-use Rattle.med_index.specs.Rebuilt.{AnswersRebuild, AreOfIndex, IsOfIndex, IsRebuild, IsRebuildOf, Reports, removals, stores}
+use Rattle.med_index.specs.Rebuilt.{AnswersRebuild, AreOfIndex, IsOfIndex, IsRebuild, Reports, removals, stores}
 use Rattle.med_index.proofs.PlanLemmas.{same_path}
 use Rattle.med_index.proofs.RebuildLemmas.{rebuilt}
 

@@ -9,10 +9,9 @@ use Rattle.med_base.specs.Content.{Content, Object}
 use Rattle.med_base.specs.Effects.{Effect, Stores, Removes}
 use Rattle.med_base.specs.Kinds.{Kind, Entry, Latest}
 use Rattle.med_manifest.specs.declared.why.ManifestWhy.{ManifestWhy}
-use Rattle.med_manifest.specs.Index.{Entries, IsGiven}
 use Rattle.med_manifest.specs.Mend.{changes_of_mend, name_in}
-use Rattle.med_manifest.specs.Reads.{DoAllRead, IsFirstUnread}
-use Rattle.med_manifest.specs.Rebuild.{changes_of_rebuild}
+use Rattle.med_manifest.specs.Reads.{IsFirstUnread}
+use Rattle.med_manifest.specs.Rebuild.{IsRebuildOf}
 use Rattle.med_manifest.specs.Refusals.{IsRefused}
 use Rattle.med_index.specs.declared.errors.IndexError.{IndexError}
 use Rattle.med_index.specs.declared.errors.IndexError.TheVariants.{BadManifest, Store, Memory}
@@ -61,16 +60,6 @@ abbrev pub removals : List Effect → ℕ
 removals [] = 0
 removals (Stores path bytes second ∷ xs) = removals xs
 removals (Removes path ∷ xs) = 1 + removals xs
-
--- the manifests of the node read, and the changes make its index just what its backups give
-pub record IsRebuildOf (before : List ℕ) (c : Content) (f : List ℕ) (xs : List Effect) : Type 0
-  where
-    pub read : DoAllRead before c f []
-    pub entries : Entries
-    pub given : IsGiven before c f entries
-    pub of_mend : ℕ → ℕ
-    pub of_entries : List ℕ → ℕ
-    pub list : xs ≡ changes_of_rebuild before c f entries of_mend of_entries
 
 -- the first manifest of the node that doesn't read has this path, and is refused for this cause
 pub record IsFirstBad (before : List ℕ) (c : Content) (f path : List ℕ) (why : ManifestWhy)

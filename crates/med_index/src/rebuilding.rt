@@ -9,7 +9,8 @@ ghost use Rattle.med_index.specs.Errors.{HasIndexCause};
 ghost use Rattle.med_index.specs.Planned.{ArePlanned, IsOfIndexPlan};
 ghost use Rattle.med_index.specs.Gathered.{TellsUnread};
 ghost use Rattle.med_index.specs.Plans.{count_of, is_put};
-ghost use Rattle.med_index.specs.Rebuilt.{IsRebuild, IsRebuildOf};
+ghost use Rattle.med_manifest.specs.Rebuild.{IsRebuildOf};
+ghost use Rattle.med_index.specs.Rebuilt.{IsRebuild};
 
 use crate::backups::find_backups;
 use crate::changes::{Planned, apply_all};

@@ -1,1 +1,4 @@
+pub mod BorrowedLemmas
+pub mod JsonTrees
+mod NumberLemmas
 pub mod TreeLemmas

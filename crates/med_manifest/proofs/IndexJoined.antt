@@ -1,20 +1,20 @@
 -- The definitions of the index and those by kinds say the same.
-use Rattle.std.proofs.Common.{◌≡◌, ◌≢◌, ℕ, false, [], Option, Some, None, option_map, refl, sym, ◌∙◌, ap, subst}
+use Rattle.std.proofs.Common.{◌≡◌, ◌≢◌, ℕ, false, List, [], Option, Some, None, option_map, refl, sym, ◌∙◌, ap, subst}
 use Rattle.std.specs.FinMap as fin
 use Rattle.med_base.specs.declared.layout.MetaKind.TheVariants as meta_kind
 use Rattle.med_base.specs.declared.kinds.IndexKind.TheVariants as index_kind
 use Rattle.med_base.specs.declared.kinds.LatestKind.TheVariants as latest_kind
 use Rattle.med_base.specs.Classify.{kind_of}
 use Rattle.med_base.specs.Content.{Content, Object}
-use Rattle.med_base.specs.Effects.{applied}
+use Rattle.med_base.specs.Effects.{Effect, applied}
 use Rattle.med_base.specs.Kinds.{Entry, HasSecond, IsBackupName, IsFqdn, Latest, Meta}
 use Rattle.med_base.specs.declared.kinds.LatestKind.{LatestKind}
 use Rattle.med_base.specs.declared.layout.MetaKind.{MetaKind}
 use Rattle.med_manifest.proofs.ByKind.{FinishedByKind, HasPath, SoundByKind, StandsByKind, Text, at, manifest, node_by_kind, path_has, path_valid}
 use Rattle.med_manifest.proofs.IndexByKind.{ExactByKind, rebuild_by, rebuild_same}
 use Rattle.med_manifest.proofs.Rebuilds.{exact_sound, rebuild_nothing, rebuild_other, rebuild_reaches}
-use Rattle.med_manifest.specs.Index.{Entries, IsGiven, IsIndexExact, IsIndexSound}
-use Rattle.med_manifest.specs.Rebuild.{changes_of_rebuild, is_entry_of_node}
+use Rattle.med_manifest.specs.Index.{IsIndexExact, IsIndexSound}
+use Rattle.med_manifest.specs.Rebuild.{IsListOfRebuild, is_entry_of_node}
 use Rattle.med_manifest.specs.Vault.{IsFinished}
 
 -- ---- names
@@ -117,25 +117,26 @@ kind_exact before c f node exact = record {
 
 -- ---- a rebuild
 
-module _ (before : Text) (c : Content) (f : Text) (node : IsFqdn f) (G : Entries)
-    (given_so : IsGiven before c f G) (t : ℕ → ℕ) (u : Text → ℕ) where
-  same_list : changes_of_rebuild before c f G t u ≡ rebuild_by before c f G t u
-  same_list = rebuild_same before c f G t u
+module _ (before : Text) (c : Content) (f : Text) (xs : List Effect) (node : IsFqdn f)
+    (is : IsListOfRebuild before c f xs) where
+  same_list : xs ≡ rebuild_by before c f is.entries is.of_mend is.of_entries
+  same_list = is.list ∙ rebuild_same before c f is.entries is.of_mend is.of_entries
 
-  pub reaches_exact : IsIndexExact before (applied (changes_of_rebuild before c f G t u) c) f
-  reaches_exact = subst (λ xs. IsIndexExact before (applied xs c) f) (sym same_list)
-      (kind_exact before (applied (rebuild_by before c f G t u) c) f node (rebuild_reaches before f
-      (node_by_kind before f node) c G given_so t u))
+  pub reaches_exact : IsIndexExact before (applied xs c) f
+  reaches_exact = subst (λ (ys : List Effect). IsIndexExact before (applied ys c) f) (sym same_list)
+      (kind_exact before (applied (rebuild_by before c f is.entries is.of_mend is.of_entries) c) f
+      node (rebuild_reaches before f (node_by_kind before f node) c is.entries is.given is.of_mend
+      is.of_entries))
 
   pub others_stay : (q : Text) → is_entry_of_node f (kind_of before q) ≡ false → ((e : LatestKind)
-      → (kind_of before q ≢ Latest f e)) → fin.get (applied (changes_of_rebuild before c f G t u) c)
-      q ≡ fin.get c q
-  others_stay q other_kind apart = ap (λ xs. fin.get (applied xs c) q) same_list
-      ∙ rebuild_other before f (node_by_kind before f node) c G given_so t u q other_kind apart
+      → (kind_of before q ≢ Latest f e)) → fin.get (applied xs c) q ≡ fin.get c q
+  others_stay q other_kind apart = ap (λ (ys : List Effect). fin.get (applied ys c) q) same_list
+      ∙ rebuild_other before f (node_by_kind before f node) c is.entries is.given is.of_mend
+      is.of_entries q other_kind apart
 
-  pub nothing_left : IsIndexExact before c f → changes_of_rebuild before c f G t u ≡ []
-  nothing_left exact = same_list ∙ rebuild_nothing before f (node_by_kind before f node) c G
-      given_so t u (exact_kind before c f exact)
+  pub nothing_left : IsIndexExact before c f → xs ≡ []
+  nothing_left exact = same_list ∙ rebuild_nothing before f (node_by_kind before f node) c
+      is.entries is.given is.of_mend is.of_entries (exact_kind before c f exact)
 
 pub exact_is_sound : (before : Text) (c : Content) (f : Text) → IsFqdn f → IsIndexExact before c f
     → IsIndexSound before c f

@@ -2,7 +2,7 @@
 -- text names (specs/Named.antt), and what each of them is in this backup.
 -- After Cassandra Medusa's manifest.json; its exact form is this project's own.
 use Rattle.std.specs.Prelude.{◌≡◌, ◌⊎◌, ℕ, List, map}
-use Rattle.std.specs.List.{AllZip, IsDistinct}
+use Rattle.std.specs.List.{AllByRecursion, AllZip, IsDistinct}
 use Rattle.med_base.specs.declared.key.FileKey.{FileKey}
 use Rattle.med_base.specs.Digest.{SpellsMd5}
 use Rattle.med_base.specs.Key.{key_eq, IsKey}
@@ -36,6 +36,12 @@ pub record AreRecords (before f n : List ℕ) (named : List Named) (files : List
   pub each : AllZip (IsRecordOf before f n) named files
   pub once : IsDistinct key_eq (map (λ (r : FileRecord). r.key) files)
 
+-- the files have keys, and their paths are where the backup has them
+abbrev pub AreFilesOf : List ℕ → List ℕ → List ℕ → List FileRecord → Type 0
+AreFilesOf before f n files =
+    AllByRecursion (λ (r : FileRecord). IsKey r.key) files
+    × AllByRecursion (λ (r : FileRecord). IsPathOf before f n r.key r.path) files
+
 -- the bytes are the manifest of the backup n of the node f, and these are its files
 pub record IsManifest (before f n bytes : List ℕ) (files : List FileRecord) : Type 0 where
   pub named : List Named
@@ -46,3 +52,14 @@ pub record IsManifest (before f n bytes : List ℕ) (files : List FileRecord) : 
 abbrev pub ManifestsAreOne : Type 0
 ManifestsAreOne = (before f n bytes : List ℕ) (a b : List FileRecord)
     → IsManifest before f n bytes a → IsManifest before f n bytes b → a ≡ b
+
+-- in each backup that has these files, the bytes are its manifest with them
+abbrev pub NamesThese : List ℕ → List FileRecord → Type 0
+NamesThese bytes files =
+    (before f n : List ℕ) → AreFilesOf before f n files → IsManifest before f n bytes files
+
+-- and with no others
+abbrev pub NamesNoOther : List ℕ → List FileRecord → Type 0
+NamesNoOther bytes files =
+    (before f n : List ℕ) → AreFilesOf before f n files
+    → (others : List FileRecord) → IsManifest before f n bytes others → others ≡ files

@@ -1,12 +1,13 @@
 -- The changes that make the index of a node just what its backups give.
-use Rattle.std.specs.Prelude.{ℕ, Bool, false, not, ◌&&◌, List, [], ◌∷◌, ◌++◌, filter, Option, Some, None, bytes_eq}
+use Rattle.std.specs.Prelude.{◌≡◌, ℕ, Bool, false, not, ◌&&◌, List, [], ◌∷◌, ◌++◌, filter, Option, Some, None, bytes_eq}
 use Rattle.std.specs.FinMap.{get, keys, contains_key}
 use Rattle.med_base.specs.Content.{Content}
 use Rattle.med_base.specs.Effects.{Effect}
 use Rattle.med_base.specs.Kinds.{Kind, Entry}
-use Rattle.med_manifest.specs.Index.{Entries}
+use Rattle.med_manifest.specs.Index.{Entries, IsGiven}
 use Rattle.med_manifest.specs.Listed.{paths_of, removes}
 use Rattle.med_manifest.specs.Mend.{put_unless, changes_of_mend}
+use Rattle.med_manifest.specs.Reads.{DoAllRead}
 
 -- an entry that the index has of the node
 abbrev pub is_entry_of_node : List ℕ → Kind → Bool
@@ -41,3 +42,18 @@ abbrev pub changes_of_rebuild : List ℕ → Content → List ℕ → Entries �
 changes_of_rebuild before c f entries of_mend of_entries =
     changes_of_mend before c f [] of_mend
     ++ (removes (not_given before c f entries) ++ put_entries c entries (keys entries) of_entries)
+
+-- the changes are the list that makes the index of the node just what its backups give
+pub record IsListOfRebuild (before : List ℕ) (c : Content) (f : List ℕ) (xs : List Effect) : Type 0
+  where
+    pub entries : Entries
+    pub given : IsGiven before c f entries
+    pub of_mend : ℕ → ℕ
+    pub of_entries : List ℕ → ℕ
+    pub list : xs ≡ changes_of_rebuild before c f entries of_mend of_entries
+
+-- the manifests of the node read, and the changes are that list
+pub record IsRebuildOf (before : List ℕ) (c : Content) (f : List ℕ) (xs : List Effect) : Type 0
+  where
+    pub read : DoAllRead before c f []
+    pub made : IsListOfRebuild before c f xs

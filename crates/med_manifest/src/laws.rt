@@ -5,11 +5,11 @@ ghost use Rattle.med_base.specs.declared.kinds.LatestKind.{LatestKind};
 ghost use Rattle.med_base.specs.declared.layout.MetaKind.{MetaKind};
 ghost use Rattle.med_base.specs.Classify.{kind_of};
 ghost use Rattle.med_base.specs.Content.{Content};
-ghost use Rattle.med_base.specs.Effects.{applied};
+ghost use Rattle.med_base.specs.Effects.{Effect, applied};
 ghost use Rattle.med_base.specs.Kinds.{Latest, IsFqdn};
 ghost use Rattle.med_manifest.specs.Index.{Entries, started, IsGiven, IsIndexSound, IsIndexExact};
 ghost use Rattle.med_manifest.specs.Manifest.{ManifestsAreOne};
-ghost use Rattle.med_manifest.specs.Rebuild.{changes_of_rebuild, is_entry_of_node};
+ghost use Rattle.med_manifest.specs.Rebuild.{IsListOfRebuild, is_entry_of_node};
 ghost use Rattle.med_manifest.specs.Vault.{second_of, IsStarted};
 ghost use Rattle.med_manifest.specs.Refusals.{CausesAreOne, RefusedAreNone};
 
@@ -32,26 +32,26 @@ pub fn starts_are_told()
 {}
 
 /// A law: a rebuild makes the index of its node exact and changes nothing else, and over an exact
-/// index it is no change. An exact index is sound.
+/// index it is no change.
 pub fn rebuild_makes_exact()
-    ensures reaches { (before : List ℕ) (c : Content) (f : List ℕ) (entries : Entries)
-        (of_mend : ℕ → ℕ) (of_entries : List ℕ → ℕ) → IsFqdn f → IsGiven before c f entries
-        → IsIndexExact before
-        (applied (changes_of_rebuild before c f entries of_mend of_entries) c) f }
-    ensures others { (before : List ℕ) (c : Content) (f : List ℕ) (entries : Entries)
-        (of_mend : ℕ → ℕ) (of_entries : List ℕ → ℕ) (path : List ℕ) → IsFqdn f
-        → IsGiven before c f entries → is_entry_of_node f (kind_of before path) ≡ false
+    ensures reaches { (before : List ℕ) (c : Content) (f : List ℕ) (xs : List Effect) → IsFqdn f
+        → IsListOfRebuild before c f xs → IsIndexExact before (applied xs c) f }
+    ensures others { (before : List ℕ) (c : Content) (f path : List ℕ) (xs : List Effect)
+        → IsFqdn f → IsListOfRebuild before c f xs
+        → is_entry_of_node f (kind_of before path) ≡ false
         → ((kind : LatestKind) → kind_of before path ≢ Latest f kind)
-        → get (applied (changes_of_rebuild before c f entries of_mend of_entries) c) path
-        ≡ get c path }
-    ensures nothing { (before : List ℕ) (c : Content) (f : List ℕ) (entries : Entries)
-        (of_mend : ℕ → ℕ) (of_entries : List ℕ → ℕ) → IsFqdn f → IsGiven before c f entries
-        → IsIndexExact before c f
-        → changes_of_rebuild before c f entries of_mend of_entries ≡ [] }
-    ensures sound { (before : List ℕ) (c : Content) (f : List ℕ) → IsFqdn f
-        → IsIndexExact before c f → IsIndexSound before c f }
+        → get (applied xs c) path ≡ get c path }
+    ensures nothing { (before : List ℕ) (c : Content) (f : List ℕ) (xs : List Effect) → IsFqdn f
+        → IsListOfRebuild before c f xs → IsIndexExact before c f → xs ≡ [] }
+{}
+
+/// A law: what the backups of a node give to its index is one map of entries, and no other; and an
+/// exact index is sound.
+pub fn index_is_given()
     ensures given { (before : List ℕ) (c : Content) (f : List ℕ)
         → ((entries : Entries) × IsGiven before c f entries) }
     ensures one { (before : List ℕ) (c : Content) (f : List ℕ) (a b : Entries)
         → IsGiven before c f a → IsGiven before c f b → a ≡ b }
+    ensures sound { (before : List ℕ) (c : Content) (f : List ℕ) → IsFqdn f
+        → IsIndexExact before c f → IsIndexSound before c f }
 {}

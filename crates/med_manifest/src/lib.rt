@@ -15,6 +15,6 @@ mod shape;
 mod why;
 mod written;
 
-pub use laws::{manifests_are_one, rebuild_makes_exact, starts_are_told};
+pub use laws::{index_is_given, manifests_are_one, rebuild_makes_exact, starts_are_told};
 pub use manifest::{FileRecord, Manifest};
 pub use why::{ManifestError, ManifestWhy};

@@ -1,19 +1,18 @@
 // The files of a backup.
-ghost use Rattle.std.specs.Prelude.{◌≡◌, ℕ, List, Some, IfOk, IfErr, map};
-ghost use Rattle.std.specs.List.{AllByRecursion};
+ghost use Rattle.std.specs.Prelude.{◌≡◌, Some, IfOk, IfErr, map};
 ghost use Rattle.std.specs.Str.{IsUtf8};
 ghost use Rattle.serde_json.specs.Read.{read};
-ghost use Rattle.med_base.specs.Key.{AreRising, IsKey};
+ghost use Rattle.med_base.specs.Key.{AreRising};
 ghost use Rattle.med_base.specs.Memory.{WhyIs};
 ghost use Rattle.med_manifest.specs.Written.{manifest_data, manifest_text};
-ghost use Rattle.med_manifest.specs.declared.manifest.FileRecord.{FileRecord};
-ghost use Rattle.med_manifest.specs.Manifest.{IsManifest, IsPathOf};
+ghost use Rattle.med_manifest.specs.Manifest.{IsManifest, NamesNoOther, NamesThese};
 ghost use Rattle.med_manifest.specs.Refusals.{IsRefused, IsNoManifest};
 
 use crate::ManifestError;
 use crate::records::records_of;
-use crate::shape::{named_files, read_tree};
+use crate::shape::files_named;
 use crate::written::manifest_bytes;
+use json::Scratch;
 use med_base::{BackupName, FileKey, Fingerprint, Fqdn, Layout, NoMemory, ObjPath};
 use std::alloc::Global;
 
@@ -42,17 +41,9 @@ impl Manifest {
         ensures utf8 { IfOk result (λ text. IsUtf8 text.items) }
         ensures reads_back { IfOk result
             (λ text. read text.items ≡ Some (manifest_data self.now.files.items)) }
-        ensures names { IfOk result
-            (λ text. (before f n : List ℕ)
-            → AllByRecursion (λ r. IsKey r.key) self.now.files.items
-            → AllByRecursion (λ r. IsPathOf before f n r.key r.path) self.now.files.items
-            → IsManifest before f n text.items self.now.files.items) }
+        ensures names { IfOk result (λ text. NamesThese text.items self.now.files.items) }
         ensures names_no_other { IfOk result
-            (λ text. (before f n : List ℕ)
-            → AllByRecursion (λ r. IsKey r.key) self.now.files.items
-            → AllByRecursion (λ r. IsPathOf before f n r.key r.path) self.now.files.items
-            → (files : List FileRecord) → IsManifest before f n text.items files
-            → files ≡ self.now.files.items) }
+            (λ text. NamesNoOther text.items self.now.files.items) }
     {
         let text = manifest_bytes(alloc, self.files.as_slice())?;
         Ok(text)
@@ -75,8 +66,8 @@ impl Manifest {
         ensures refused { IfErr result
             (WhyIs (λ _. IsNoManifest layout.now node.now name.now bytes.now)) }
     {
-        let value = read_tree(alloc, bytes)?;
-        let named = named_files(alloc, &value)?;
+        let mut scratch = Scratch::new(alloc);
+        let named = files_named(alloc, bytes, &mut scratch)?;
         let files = records_of(alloc, layout, node, name, named.as_slice())?;
         Ok(Manifest { files })
     }

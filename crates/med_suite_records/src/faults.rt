@@ -18,19 +18,28 @@ fn a_name_has_255_bytes_at_most(rt: HostRuntime) {
     );
 }
 
-// Lists in lists, of that depth.
-fn lists(alloc: Global, depth: usize) -> Option<String> {
-    let front = "[".repeat(alloc, depth).ok()?;
-    let back = "]".repeat(alloc, depth).ok()?;
+// So often what opens a value, the value in the middle, and so often what closes one.
+fn nested(alloc: Global, opens: &str, middle: &str, closes: &str, times: usize) -> Option<String> {
+    let front = opens.repeat(alloc, times).ok()?;
+    let back = closes.repeat(alloc, times).ok()?;
     let (front, back) = (front.as_str(), back.as_str());
-    format!(in alloc; "{front}{back}").ok()
+    format!(in alloc; "{front}{middle}{back}").ok()
 }
 
 // Whether lists of that depth, in the text, are read as the answer says.
 fn is_depth_read(alloc: Global, text: &str, depth: usize, answer: &str) -> Option<bool> {
-    let lists = lists(alloc, depth)?;
+    let lists = nested(alloc, "[", "", "]", depth)?;
     is_cell_read(alloc, "", text, lists.as_str(), answer)
 }
+
+// Whether so many objects around an empty one, in the text, are read as the answer says.
+fn are_objects_read(alloc: Global, text: &str, times: usize, answer: &str) -> Option<bool> {
+    let objects = nested(alloc, "{\"x\":", "{}", "}", times)?;
+    is_cell_read(alloc, "", text, objects.as_str(), answer)
+}
+
+// A table with a key that nothing reads, whose value stands below a list and an object.
+const UNREAD: &str = r#"[{"columnfamily":"t","keyspace":"ks","objects":[],"x":$}]"#;
 
 #[test]
 fn a_nesting_of_127_is_read(rt: HostRuntime) {
@@ -39,11 +48,29 @@ fn a_nesting_of_127_is_read(rt: HostRuntime) {
         Some(true)
     );
     assert_eq!(rt; is_depth_read(rt.alloc(), "$", 128, "not json"), Some(true));
-    // below a list and an object, under a key that nothing reads
-    let text = r#"[{"columnfamily":"t","keyspace":"ks","objects":[],"x":$}]"#;
-    assert_eq!(rt; is_depth_read(rt.alloc(), text, 125, "files"), Some(true));
+    assert_eq!(rt; is_depth_read(rt.alloc(), UNREAD, 125, "files"), Some(true));
     assert_eq!(rt;
-        is_depth_read(rt.alloc(), text, 126, "not json"),
+        is_depth_read(rt.alloc(), UNREAD, 126, "not json"),
+        Some(true)
+    );
+}
+
+#[test]
+fn a_nesting_of_127_objects_is_read(rt: HostRuntime) {
+    assert_eq!(rt;
+        are_objects_read(rt.alloc(), "$", 126, "not manifest 0"),
+        Some(true)
+    );
+    assert_eq!(rt;
+        are_objects_read(rt.alloc(), "$", 127, "not json"),
+        Some(true)
+    );
+    assert_eq!(rt;
+        are_objects_read(rt.alloc(), UNREAD, 124, "files"),
+        Some(true)
+    );
+    assert_eq!(rt;
+        are_objects_read(rt.alloc(), UNREAD, 125, "not json"),
         Some(true)
     );
 }

@@ -7,6 +7,9 @@ use std::alloc::Global;
 const WHOLE: &str = r#" => not json
 [ => not json
 [] [] => not json
+[]] => not json
+[]x => not json
+[]"x" => not json
 [], => not json
 [01] => not json
 ["¶"] => not json
@@ -28,10 +31,26 @@ fn texts_that_are_no_list_of_tables(rt: HostRuntime) {
         first_wrong(rt.alloc(), "$", "\u{feff}[] => not json"),
         None
     );
-    // no UTF-8
+    // not UTF-8
     assert_eq!(rt; is_read(rt.alloc(), "", b"\xff", "not json"), Some(true));
     assert_eq!(rt;
         is_read(rt.alloc(), "", b"[\"\xc3\"]", "not json"),
+        Some(true)
+    );
+}
+
+// Bytes that aren't UTF-8, in the value of a key that nothing reads, and in such a key.
+const BESIDE: &[u8] =
+    b"[{\"columnfamily\":\"t\",\"keyspace\":\"ks\",\"objects\":[],\"x\":\"\xff\"}]";
+
+const BESIDE_IN_A_KEY: &[u8] =
+    b"[{\"columnfamily\":\"t\",\"keyspace\":\"ks\",\"objects\":[],\"\xff\":1}]";
+
+#[test]
+fn bytes_that_nothing_reads_are_utf8_too(rt: HostRuntime) {
+    assert_eq!(rt; is_read(rt.alloc(), "", BESIDE, "not json"), Some(true));
+    assert_eq!(rt;
+        is_read(rt.alloc(), "", BESIDE_IN_A_KEY, "not json"),
         Some(true)
     );
 }
@@ -55,7 +74,23 @@ const SIZES: &str = r#"0 => files n1/data/ks/t/f 0;
 null => not manifest 0
 03 => not json
 +3 => not json
-3. => not json"#;
+3. => not json
+1e999 => not json
+-1e999 => not json
+0e999 => not manifest 0
+4,"size":3 => files n1/data/ks/t/f 3;
+"x","size":3 => files n1/data/ks/t/f 3;
+3,"size":"x" => not manifest 0
+3,"size":1e999 => not json
+1e999,"size":3 => not json
+4,"siz\u0065":3 => files n1/data/ks/t/f 3;
+3,"x":1e308 => files n1/data/ks/t/f 3;
+3,"x":1e309 => not json
+3,"x":[{"y":-1e999}] => not json
+3,"x":"1e999" => files n1/data/ks/t/f 3;
+3,"x":"\ud800" => not json
+3,"\ud800":1 => not json
+3,"":null => files n1/data/ks/t/f 3;"#;
 
 #[test]
 fn a_size_is_judged_by_its_spelling(rt: HostRuntime) {
@@ -148,6 +183,8 @@ const TABLES: &str = r#""columnfamily":"t","keyspace":"ks","objects":[] => files
 "columnfamil\u0079":"t","keyspace":"ks","objects":[] => files
 "columnfamily":"t","keyspace":1,"keyspace":"ks","objects":[] => files
 "columnfamily":"t","keyspace":"..","keyspace":"ks","objects":[] => files
+"columnfamily":"t","keyspace":"..","k\u0065yspace":"ks","objects":[] => files
+"columnfamily":"t","k\u0065yspace":"ks","keyspace":"..","objects":[] => not manifest 0
 "columnfamily":"t","keyspace":"ks","objects":0,"objects":[] => files
 "columnfamily":"t","keyspace":"ks","keyspace":1,"objects":[] => not manifest 0
 "columnfamily":"t","keyspace":"ks","objects":[],"objects":0 => not manifest 0

@@ -102,8 +102,8 @@ returns-clause-names g c =
     (files_names c.args.layout.now c.args.node.now c.args.name.now
     (g.P.Snap.state c.args.snap.now).held c.args.found.now.keys.items c.in_ok-files.files.items
     all.0
-    all.1 c.requires.found.walks.1)
-    (files_paths c.args.layout.now c.args.node.now c.args.name.now
+    all.1 c.requires.found.walks.1,
+    files_paths c.args.layout.now c.args.node.now c.args.name.now
     (g.P.Snap.state c.args.snap.now).held c.args.found.now.keys.items c.in_ok-files.files.items
     all.0
     all.1))

@@ -23,12 +23,12 @@ returns-clause-reads_back c =
     (subst HaveFingerprints c.as_slice.ensures.value c.in_ok-text.ensures.prints)
 
 pub returns-clause-names : goal.returns-clause-names
-returns-clause-names c before f n keys places =
+returns-clause-names c before f n (keys, places) =
     let prints = subst HaveFingerprints c.as_slice.ensures.value c.in_ok-text.ensures.prints in
     is_manifest before f n _ _ c.in_ok-text.ensures.utf8 (returns-clause-reads_back c) c.requires
     prints keys places
 
 pub returns-clause-names_no_other : goal.returns-clause-names_no_other
-returns-clause-names_no_other c before f n keys places files is =
+returns-clause-names_no_other c before f n of_backup files is =
     manifest_once before f n _ files c.args.self.now.files.items is
-    (returns-clause-names c before f n keys places)
+    (returns-clause-names c before f n of_backup)
