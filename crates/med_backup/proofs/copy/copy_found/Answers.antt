@@ -98,15 +98,16 @@ returns-clause-names g c =
     let all = rw c.as_slice-keys.ensures.value at c.in_ok-files.ensures.ok in
     subst (λ t. IsManifest c.args.layout.now c.args.node.now c.args.name.now t
     c.in_ok-files.files.items) c.in_ok-text.ensures.text
-    (c.in_ok-text.ensures.names c.args.layout.now c.args.node.now c.args.name.now
-    (files_names c.args.layout.now c.args.node.now c.args.name.now
-    (g.P.Snap.state c.args.snap.now).held c.args.found.now.keys.items c.in_ok-files.files.items
-    all.0
-    all.1 c.requires.found.walks.1,
-    files_paths c.args.layout.now c.args.node.now c.args.name.now
-    (g.P.Snap.state c.args.snap.now).held c.args.found.now.keys.items c.in_ok-files.files.items
-    all.0
-    all.1))
+    (c.in_ok-text.ensures.names c.args.layout.now c.args.node.now c.args.name.now (
+      files_names c.args.layout.now c.args.node.now c.args.name.now
+          (g.P.Snap.state c.args.snap.now).held c.args.found.now.keys.items c.in_ok-files.files.items
+          all.0
+          all.1 c.requires.found.walks.1,
+      files_paths c.args.layout.now c.args.node.now c.args.name.now
+          (g.P.Snap.state c.args.snap.now).held c.args.found.now.keys.items c.in_ok-files.files.items
+          all.0
+          all.1,
+    ))
 
 pub returns-clause-ends : goal.returns-clause-ends
 returns-clause-ends g c =
