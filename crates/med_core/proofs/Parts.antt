@@ -33,7 +33,7 @@ use Rattle.med_manifest.specs.Named.{named}
 use Rattle.med_manifest.specs.Rebuild.{is_entry_of, is_entry_of_node}
 use Rattle.med_manifest.specs.declared.manifest.FileRecord.{FileRecord}
 
-and_first : (a b : Bool) → (a && b) ≡ true → a ≡ true
+pub and_first : (a b : Bool) → (a && b) ≡ true → a ≡ true
 and_first true b e = refl
 and_first false b e = e
 
@@ -88,15 +88,15 @@ module _ (before : Text) (f : Text) where
       → is_owned f (kind_of before (at before k)) ≡ true
   owned_at k has own = ap (is_owned f) has ∙ own
 
-  mine : bytes_eq f f ≡ true
+  pub mine : bytes_eq f f ≡ true
   mine = same_itself f
 
   module _ (c d : Content) (h : Agree before f c d) where
-    at_agrees : (k : Kind) → HasPath before k → is_owned f k ≡ true → fin.get c (at before k)
+    pub at_agrees : (k : Kind) → HasPath before k → is_owned f k ≡ true → fin.get c (at before k)
         ≡ fin.get d (at before k)
     at_agrees k has own = h (at before k) (owned_at k has own)
 
-    paths_agree : (test : Kind → Bool) → ((k : Kind) → test k ≡ true → is_owned f k ≡ true)
+    pub paths_agree : (test : Kind → Bool) → ((k : Kind) → test k ≡ true → is_owned f k ≡ true)
         → paths_of before c test ≡ paths_of before d test
     paths_agree test within = ap fin.keys (fin.same_map nat_list_cmp_total
         (fin.slice_cmp-IsAntisymmetric fin.nat_cmp-IsAntisymmetric)
@@ -128,7 +128,7 @@ module _ (before : Text) (f : Text) where
     shared_owned (Shared g e) is = is
     shared_owned _ is = absurd (cc)
 
-    candidate_owned : (names : List Text) (k : Kind) → is_manifest_outside f names k ≡ true
+    pub candidate_owned : (names : List Text) (k : Kind) → is_manifest_outside f names k ≡ true
         → is_owned f k ≡ true
     candidate_owned names (Meta g n meta_kind.Manifest) is = and_first (bytes_eq g f)
         (not (list_any (bytes_eq n) names)) is
@@ -219,7 +219,7 @@ module _ (before : Text) (f : Text) where
         ∙ ap (filter (λ p. not (list_any (bytes_eq p) named) && is_old (fin.get d p) grace now))
         (paths_agree (is_shared_of f) shared_owned)
 
-    remove_agrees : (names named : List Text) (grace now : ℕ) → All (NameByKind before f) names
+    pub remove_agrees : (names named : List Text) (grace now : ℕ) → All (NameByKind before f) names
         → (t : ℕ → ℕ) → NodeByKind before f → changes_of_removal before c f names named grace now t
         ≡ changes_of_removal before d f names named grace now t
     remove_agrees names named grace now are t node = λ i. mend_agrees node names t i
@@ -262,7 +262,7 @@ module _ (before : Text) (f : Text) where
         ++ put_given_agrees rest u (All-tail (λ a. IsGivenAs before c f a.1 (kind_of before a.0)) e
         rest k) i
 
-    rebuild_agrees : (given : List (Text × Text)) (t : ℕ → ℕ) (u : Text → ℕ) → NodeByKind before f
+    pub rebuild_agrees : (given : List (Text × Text)) (t : ℕ → ℕ) (u : Text → ℕ) → NodeByKind before f
         → All (λ e. IsGivenAs before c f e.1 (kind_of before e.0)) given
         → rebuild_list before c f given t u ≡ rebuild_list before d f given t u
     rebuild_agrees given t u node k = λ i. mend_agrees node [] t i
@@ -298,7 +298,7 @@ module _ (before : Text) (f : Text) where
       λ i. cond (is_stored_as r.fingerprint (here_at i)) (with_record r (more c d h i))
       (with_placing (p i) (rest i))
 
-  map_agrees : (c d : Content) → Agree before f c d → (p : Text) (k : Kind) → kind_of before p ≡ k
+  pub map_agrees : (c d : Content) → Agree before f c d → (p : Text) (k : Kind) → kind_of before p ≡ k
       → given_to before c f k ≡ given_to before d f k
   map_agrees c d h p (Entry g n e) is = go (bytes_eq g f) refl
     where

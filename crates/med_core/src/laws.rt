@@ -112,3 +112,10 @@ pub fn sections_keep_to_their_node()
         → IsSection before (node_part before e.node c) running e → (f : List ℕ)
         → e.node ≢ f → node_part before f (next_content c e) ≡ node_part before f c }
 {}
+
+/// A law: a section over a content is one over the part of its node: a call sees that part alone.
+pub fn sections_see_their_part()
+    ensures { (before : List ℕ) (c : Content) (running : Running) (e : Event)
+        → IsSection before c running e
+        → IsSection before (node_part before e.node c) running e }
+{}

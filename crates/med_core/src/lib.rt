@@ -12,6 +12,7 @@ mod records;
 pub use laws::{
     index_stays_exact, kept_over_runs, refused_calls_have_no_list, removal_counts_what_goes,
     removal_is_a_filter, removal_leaves_after, sections_keep_to_their_node, sections_keep_whole,
+    sections_see_their_part,
 };
 pub use med_outside::{BackupRow, Mode};
 pub use records::{How, Record, Removed};
