@@ -5,6 +5,7 @@ ghost use Rattle.serde_json.specs.Read.{number_of, number_from};
 
 use fast_float::Numeral;
 
+// Whether a minus sign stands first.
 fn has_minus(bytes: &[u8]) -> bool
     ensures value { result ≡ (slice_index bytes.now 0 == 45) }
     ensures len { IsTrue result → 0 < length bytes.now }
@@ -12,7 +13,7 @@ fn has_minus(bytes: &[u8]) -> bool
     !bytes.is_empty() && bytes[0] == b'-'
 }
 
-// Whether a number below zero is finite.
+// Whether a number behind a minus sign is finite.
 fn is_finite_below(numeral: &Numeral<'_>) -> bool
     ensures { result ≡ is_some (number_from true numeral.now) }
 {
