@@ -1,15 +1,17 @@
 -- What a place makes, answers and records.
-use Rattle.std.specs.Prelude.{◌≡◌, ◌++◌, ◌∷◌, ℕ, Bool, false, List, [], Option, IfOk, IfSome, Contains, Result, IsOk, Ok, Err}
-use Rattle.med_base.specs.declared.key.FileKey.{FileKey}
+use Rattle.std.specs.Prelude.{◌≡◌, ◌++◌, ◌∷◌, ℕ, Bool, true, false, List, [], Option, Some, None, option_map, IfOk, IfSome, Contains, Result, IsOk, Ok, Err}
+use Rattle.std.specs.FinMap.{get}
 use Rattle.std.specs.List.{AllByRecursion}
-use Rattle.med_base.specs.Content.{Content}
+use Rattle.med_base.specs.declared.fingerprint.Fingerprint.{Fingerprint}
+use Rattle.med_base.specs.declared.key.FileKey.{FileKey}
+use Rattle.med_base.specs.Content.{Content, Object}
 use Rattle.med_base.specs.Effects.{Effect, Stores, Removes}
 use Rattle.med_base.specs.Fingerprint.{fingerprint_of}
 use Rattle.med_base.specs.Layout.{own_path}
 use Rattle.med_core.specs.declared.records.How.{How}
-use Rattle.med_core.specs.declared.records.How.TheVariants.{Stored}
+use Rattle.med_core.specs.declared.records.How.TheVariants.{Reused, Stored, Aside}
 use Rattle.med_core.specs.declared.records.Record.{Record}
-use Rattle.med_core.specs.Place.{placed_record, placing}
+use Rattle.med_core.specs.Place.{is_same_print, placed_record, placing}
 use Rattle.med_core.specs.Section.{Place}
 use Rattle.med_index.specs.Modes.{is_differential}
 use Rattle.med_manifest.specs.Manifest.{IsPathOf}
@@ -20,6 +22,7 @@ use Rattle.med_outside.specs.Makes.{Makes, IsError}
 use Rattle.med_outside.specs.Sent.{IsWholeFile}
 use Rattle.med_outside.specs.Snapshot.{Snapshot, HasKey}
 use Rattle.med_outside.specs.State.{State, History}
+use Rattle.med_shelf.specs.declared.sending.Placed.{Placed}
 use Rattle.med_shelf.specs.Acts.{ActsAsCopy}
 use Rattle.med_shelf.specs.Records.{keys_of}
 use Rattle.med_shelf.specs.Shelf.{ShelfState, ClaimState}
@@ -94,3 +97,59 @@ pub record PlacesFile (before f n : List ℕ) (differential : Bool) (key : FileK
     pub makes : Makes (IsOk result) (IsError result fault.Store) xs old new stood_before
         stood_after trace_before trace_after
     pub record_is : IfOk result (IsRecordOf before f n differential key bytes old.content)
+
+-- a shared file stands, and has this fingerprint
+abbrev pub stands_as : Option Fingerprint → Fingerprint → Bool
+stands_as None print = false
+stands_as (Some standing) print = is_same_print standing print
+
+-- the put of a file under the path, unless the shared file stands with its fingerprint
+abbrev pub put_unless : (stands : Bool) → (path bytes : List ℕ) → (second : ℕ) → List Effect
+put_unless true path bytes second = []
+put_unless false path bytes second = Stores path bytes second ∷ []
+
+-- how the file comes to its path where it is put, and where the shared file is named
+abbrev pub how_unless : (stands : Bool) → Option Fingerprint → How
+how_unless true standing = Reused
+how_unless false None = Stored
+how_unless false (Some standing) = Aside
+
+-- The file of the key was sent with all its bytes, and put under the path, unless the shared file
+-- stands with its fingerprint. `standing` is the fingerprint of the shared file, if one stands.
+pub record SendsFile (standing : Option Fingerprint) (path : List ℕ) (key : FileKey)
+    (held : Option Snapshot) (result : Result Placed CopyFault) (old new : State)
+    (stood_before stood_after : History) (trace_before trace_after : Trace) : Type 0
+  where
+    pub bytes : List ℕ
+    pub file_is : IsWholeFile held key bytes
+    pub second : ℕ
+    pub makes : Makes (IsOk result) (IsError result fault.Store)
+        (put_unless (stands_as standing (fingerprint_of bytes)) path bytes second) old new
+        stood_before stood_after trace_before trace_after
+    pub placed_is : IfOk result
+        (λ placed. placed ≡ record {
+          fingerprint = fingerprint_of bytes;
+          how = how_unless (stands_as standing (fingerprint_of bytes)) standing;
+        })
+
+-- where a file is put in a differential backup: under the shared path where no shared file stands
+abbrev pub path_beside : Option Fingerprint → (shared own : List ℕ) → List ℕ
+path_beside None shared own = shared
+path_beside (Some standing) shared own = own
+
+-- the path of the record of a file in a differential backup
+abbrev pub path_by : How → (shared own : List ℕ) → List ℕ
+path_by Reused shared own = shared
+path_by Stored shared own = shared
+path_by Aside shared own = own
+
+-- the same as `SendsFile`, by what stands under the shared path
+pub record SendsBeside (shared own : List ℕ) (key : FileKey) (held : Option Snapshot)
+    (result : Result Placed CopyFault) (old new : State) (stood_before stood_after : History)
+    (trace_before trace_after : Trace) : Type 0
+  where
+    pub standing : Option Fingerprint
+    pub standing_is : IfSome old.content
+        (λ c. standing ≡ option_map (λ (o : Object). fingerprint_of o.bytes) (get c shared))
+    pub sends : SendsFile standing (path_beside standing shared own) key held result old new
+        stood_before stood_after trace_before trace_after

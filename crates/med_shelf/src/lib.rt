@@ -9,6 +9,8 @@
 mod claims;
 mod errors;
 mod finished;
+mod placing;
+mod sending;
 mod shelves;
 
 pub use claims::Claim;
