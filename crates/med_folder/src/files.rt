@@ -4,7 +4,6 @@ use crate::seconds::{modified_second, moment_of};
 use std::alloc::Global;
 use std::fs::{DirBuilder, File, FileTimes, Files, Metadata, OpenFile, OpenOptions};
 use std::io::{ErrorKind, Read, Write};
-use std::os::fd::AsRawFd;
 use std::os::unix::fs::{DirBuilderExt, OpenOptionsExt};
 use std::{fs, io};
 
@@ -155,14 +154,6 @@ pub(crate) fn settle<F: OpenFile>(file: &F, size: u64, second: u64) -> io::Resul
         return Err(io::Error::from(ErrorKind::InvalidData));
     }
     Ok(metadata)
-}
-
-/// Tells the system that bytes of a file from a place on, or all behind it where their number is 0,
-/// aren't read again, so that it begins to write them to the disk. It doesn't wait for that, and where
-/// the system takes no such advice nothing is lost: what is to be kept is synced.
-pub(crate) fn begin_sync(file: &File, from: u64, size: u64) {
-    let (from, size) = (from.cast_signed(), size.cast_signed());
-    let _ = libc::posix_fadvise(file.as_raw_fd(), from, size, libc::POSIX_FADV_DONTNEED);
 }
 
 /// Writes a new file whose modified time is that second, and has the system keep it.

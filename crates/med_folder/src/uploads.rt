@@ -4,13 +4,12 @@ ghost use Rattle.med_base.specs.Fingerprint.{fingerprint_of};
 ghost use Rattle.med_outside.specs.Pieces.{begun, with_piece};
 ghost use Rattle.med_folder.specs.Place.{is_object_path};
 
-use crate::files::{begin_sync, create_anew, remove_there, settle};
+use crate::files::{create_anew, remove_there, settle};
 use crate::locks::{Change, part_place};
 use crate::objects::place_of;
 use crate::tree::Tree;
 use crate::written::Written;
 use med_base::Fingerprint;
-use med_outside::PIECE;
 use std::alloc::Global;
 use std::fs::{File, Files, Metadata};
 use std::io;
@@ -48,13 +47,8 @@ impl Unfinished {
           bytes = self.old.bytes ++ bytes.now;
         }) }
     {
-        let start = self.written.size();
         self.written.add(bytes)?;
-        self.file.write_all(bytes)?;
-        if bytes.len() == PIECE {
-            begin_sync(&self.file, start, bytes.len() as u64);
-        }
-        Ok(())
+        self.file.write_all(bytes)
     }
 
     /// The same upload, to which no more bytes are added, and the fingerprint of its bytes.
@@ -140,7 +134,6 @@ impl<R: Files<File = File>> Tree<R> {
     ) -> io::Result<Metadata> {
         let (path, part, size) = upload;
         let metadata = settle(&file, size, second)?;
-        begin_sync(&file, 0, 0);
         let place = place_of(alloc, bucket, path)?;
         self.waiting.add(alloc, file, bucket, place.as_str())?;
         self.move_in(alloc, bucket, path, part, place.as_str())?;

@@ -1,5 +1,5 @@
 // The bytes of an upload so far, measured as they come.
-ghost use Rattle.std.specs.Prelude.{◌≡◌, ◌++◌, [], OnOk, length};
+ghost use Rattle.std.specs.Prelude.{◌≡◌, ◌++◌, [], OnOk};
 ghost use Rattle.med_base.specs.Fingerprint.{fingerprint_of};
 ghost use Rattle.med_folder.specs.Uploads.{bytes_of};
 
@@ -68,16 +68,6 @@ impl Written {
         ensures { bytes_of result ≡ [] }
     {
         Written::Flowing(Flow::new())
-    }
-
-    /// The number of the bytes.
-    pub(crate) fn size(&self) -> u64
-        ensures { result ≡ length (bytes_of self.now) }
-    {
-        match self {
-            Written::Flowing(flow) => flow.size(),
-            Written::Whole(ended) => ended.fingerprint().size,
-        }
     }
 
     /// Adds bytes behind those so far. Where they were all, it refuses.
