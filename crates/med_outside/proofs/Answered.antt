@@ -22,3 +22,8 @@ pub some_value : {T E : Type 0} (P : T → Type 0) (r : Result T E) → true ≡
     → (x : T) × P x
 some_value P (Ok y) e h = (y, h)
 some_value P (Err y) e h = absurd (cc e)
+
+-- what holds after a refusal gives another thing then
+pub err_with : {T E P Q : Type 0} → (P → Q) → (r : Result T E) → OnErr r P → OnErr r Q
+err_with so (Ok x) h = tt
+err_with so (Err x) h = so h

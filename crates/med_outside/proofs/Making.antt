@@ -1,9 +1,10 @@
 -- Calls in a row that change a storage: which list they make together.
-use Rattle.std.proofs.Common.{◌≡◌, ◌⊎◌, inl, inr, ◌≤◌, ◌<◌, ◌+◌, ◌^◌, ℕ, Bool, true, false, List, [], ◌∷◌, ◌++◌, map, Option, Some, None, Result, Ok, Err, IsOk, refl, sym, ap, ◌∙◌, arith, append_assoc, append-nil, subst}
+use Rattle.std.proofs.Common.{◌≡◌, ◌⊎◌, inl, inr, ◌≤◌, ◌<◌, ◌+◌, ◌^◌, ℕ, Bool, true, false, List, [], ◌∷◌, ◌++◌, map, length, length-append, Option, Some, None, Result, Ok, Err, IsOk, refl, sym, ap, ◌∙◌, arith, append_assoc, append-nil, subst}
+use Rattle.std.proofs.lemmas.List.{length-map}
 use Rattle.med_base.specs.Effects.{Effect, Stores, Removes, after_all}
 use Rattle.med_outside.specs.State.{State, ChangesWithin, ChangesOnce, History}
 use Rattle.med_outside.specs.Storage.{Put, MayPut, Delete, MayDelete}
-use Rattle.med_outside.specs.Makes.{Last, Sure, Unsure, tried, took, is_unsure, seen, seen_unsure, Records, Makes}
+use Rattle.med_outside.specs.Makes.{IsShort, Last, Sure, Unsure, tried, took, is_unsure, seen, seen_unsure, Records, Makes}
 use Rattle.med_outside.specs.declared.trace.Trace.{Trace}
 use Rattle.med_outside.specs.declared.trace.Change.{Change}
 use Rattle.med_outside.proofs.Passing.{moves_on}
@@ -34,13 +35,49 @@ module _ (layout : List ℕ) where
   records_nothing t0 t1 same sure =
       record { changes = same ∙ sym (append-nil t0.changes.items); unsure = sure }
 
+-- how many changes were recorded, and how many are left
+pub gained : (fine fault : Type 0) (xs : List Effect) (s0 s1 : State) (p0 p1 : History)
+    (t0 t1 : Trace) → (m : Makes fine fault xs s0 s1 p0 p1 t0 t1)
+    → length t1.changes.items + length m.rest ≡ length t0.changes.items + length xs
+gained fine fault xs s0 s1 p0 p1 t0 t1 m =
+    let layout = s0.terms.bucket.layout in
+    let done = map (seen layout) m.done in
+    let unsure = map (seen_unsure layout) (tried m.last) in
+    omega (
+      arith,
+      ap length m.records.changes,
+      length-append t0.changes.items (done ++ unsure),
+      length-append done unsure,
+      length-map m.done (seen layout),
+      length-map (tried m.last) (seen_unsure layout),
+      ap length m.split,
+      length-append m.done (tried m.last ++ m.rest),
+      length-append (tried m.last) m.rest,
+    )
+
+-- a refused call behind one that recorded so many changes
+pub short_behind : (size : ℕ) (t0 t1 t2 : Trace) (first later : ℕ)
+    → length t1.changes.items ≡ length t0.changes.items + first → first + later ≤ size
+    → IsShort later t1 t2 → IsShort size t0 t2
+short_behind size t0 t1 t2 first later gain fits short = elim short [
+  | inl unsure ↦ inl unsure
+  | inr less ↦ inr (omega (arith, less, gain, fits))
+]
+
 -- a call that is fine made the whole list
-all_made : (fine fault : Type 0) (xs : List Effect) (s0 s1 : State) (p0 p1 : History)
+pub all_made : (fine fault : Type 0) (xs : List Effect) (s0 s1 : State) (p0 p1 : History)
     (t0 t1 : Trace) → fine → (m : Makes fine fault xs s0 s1 p0 p1 t0 t1) → xs ≡ m.done
 all_made fine fault xs s0 s1 p0 p1 t0 t1 ok m =
     let ended = m.whole ok in
     m.split ∙ ap (λ l. m.done ++ (tried l ++ m.rest)) ended.0 ∙ ap (λ l. m.done ++ l) ended.1
     ∙ append-nil m.done
+
+-- a call that is fine recorded the whole list
+pub gained_all : (fine fault : Type 0) (xs : List Effect) (s0 s1 : State) (p0 p1 : History)
+    (t0 t1 : Trace) → fine → Makes fine fault xs s0 s1 p0 p1 t0 t1
+    → length t1.changes.items ≡ length t0.changes.items + length xs
+gained_all fine fault xs s0 s1 p0 p1 t0 t1 ok m =
+    omega (arith, gained fine fault xs s0 s1 p0 p1 t0 t1 m, ap length (m.whole ok).1)
 
 -- a call that is fine, and a call after it
 pub in_turn : (fine fault fine' fault' : Type 0) (xs ys : List Effect) (s0 s1 s2 : State)

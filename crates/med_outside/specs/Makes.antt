@@ -1,5 +1,5 @@
 -- A call that changes a storage: which list of changes it makes, how far it came, what it records.
-use Rattle.std.specs.Prelude.{◌≡◌, ◌++◌, ◌-◌, ◌<◌, ◌^◌, ℕ, Bool, true, false, List, [], ◌∷◌, map, Option, Some, None, Result, IfOk, OnOk, IsOk, Ok, Err, vec_len, vec_capacity}
+use Rattle.std.specs.Prelude.{◌≡◌, ◌⊎◌, ◌++◌, ◌+◌, ◌-◌, ◌<◌, ◌^◌, ℕ, Bool, true, false, List, [], ◌∷◌, map, length, Option, Some, None, Result, IfOk, OnOk, OnErr, IsOk, Ok, Err, vec_len, vec_capacity}
 use Rattle.med_base.specs.Classify.{is_data}
 use Rattle.med_base.specs.Fingerprint.{fingerprint_of}
 use Rattle.med_base.specs.Effects.{Effect, Stores, Removes}
@@ -68,6 +68,15 @@ pub record Makes (fine fault : Type 0) (xs : List Effect) (old new : State)
     pub records : Records old.terms.bucket.layout done last before after
     pub whole : fine → (last ≡ Sure) × (rest ≡ [])
     pub cause : is_unsure last ≡ true → fault
+
+-- a change is unsure, or fewer than so many were recorded
+abbrev pub IsShort : (size : ℕ) → (before after : Trace) → Type 0
+IsShort size before after =
+    (after.unsure ≡ true) ⊎ (length after.changes.items < length before.changes.items + size)
+
+-- a refused call that makes so many changes didn't make all of them for sure
+abbrev pub StopsShort : {T E : Type 0} → (size : ℕ) → Result T E → (before after : Trace) → Type 0
+StopsShort size result before after = OnErr result (IsShort size before after)
 
 -- The answer is this error. It computes, whatever the type of a value is.
 abbrev pub IsError : {T E : Type 0} → Result T E → E → Type 0

@@ -4,7 +4,7 @@ ghost use Rattle.med_base.specs.Classify.{is_data};
 ghost use Rattle.med_outside.specs.declared.denied.Denied.TheVariants.{Failed};
 ghost use Rattle.med_outside.specs.declared.trace.Change.TheVariants.{Delete};
 ghost use Rattle.med_outside.specs.Causes.{HasCause};
-ghost use Rattle.med_outside.specs.Makes.{MakesPut, MakesDelete, spare};
+ghost use Rattle.med_outside.specs.Makes.{MakesPut, MakesDelete, StopsShort, spare};
 ghost use Rattle.med_outside.specs.Pieces.{IsUploading, upload_of, with_upload};
 ghost use Rattle.med_outside.specs.Recorded.{put_of, ready_of};
 ghost use Rattle.med_outside.specs.State.{IsNoData, MayChange, OnlyReads};
@@ -135,6 +135,7 @@ pub fn put_recorded<S: Storage>(
     requires sure { trace.old.unsure ≡ false }
     ensures makes { MakesPut Denied.Failed path.now bytes.now result (S.state store.old)
         (S.state store.new) (S.stood store.old) (S.stood store.new) trace.old trace.new }
+    ensures err { StopsShort 1 result trace.old trace.new }
     ensures sure { OnOk result (trace.new.unsure ≡ false) }
     ensures cause { HasCause (S.state store.old).faults (S.state store.new).faults result }
 {

@@ -1,4 +1,4 @@
-use Rattle.std.proofs.Common.{rules, ◌≡◌, [], ◌∷◌, false, true, refl, ◌∙◌, arith}
+use Rattle.std.proofs.Common.{rules, ◌≡◌, [], ◌∷◌, false, true, refl, ◌∙◌, arith, inl, inr, ap, length}
 use Rattle.med_base.specs.Effects.{Stores}
 use Rattle.med_outside.specs.declared.denied.Denied.TheVariants.{Failed}
 use Rattle.med_outside.proofs.Making.{nothing_yet}
@@ -61,3 +61,15 @@ returns-in-Err-Memory-clause-makes g c = (
       c.ready_put.ensures.changes (c.ready_put.ensures.unsure ∙ c.requires.sure)
       (rw c.in-Err-Memory.field-0-is at c.in-Err-Memory.ensures.answer).moves,
 )
+
+-- src/recorded.rt:81:1
+pub returns-in-Err-clause-err : goal.returns-in-Err-clause-err
+returns-in-Err-clause-err g c = inr (omega (arith, ap length c.ready_put.ensures.changes))
+
+-- src/recorded.rt:81:1
+pub returns-in-Err-Failed-clause-err : goal.returns-in-Err-Failed-clause-err
+returns-in-Err-Failed-clause-err g c = inl c.record_put-in-Err-Failed.ensures.unsure
+
+-- src/recorded.rt:81:1
+pub returns-in-Err-Memory-clause-err : goal.returns-in-Err-Memory-clause-err
+returns-in-Err-Memory-clause-err g c = inr (omega (arith, ap length c.ready_put.ensures.changes))
