@@ -11,6 +11,7 @@ pub mod NodeLemmas
 pub mod PlanLemmas
 pub mod RebuildLemmas
 pub mod RebuildSteps
+pub mod Refusals
 pub mod RowLemmas
 pub mod RowOrder
 pub mod Sets

@@ -4,7 +4,7 @@ ghost use Rattle.med_base.specs.declared.kinds.IndexKind.TheVariants.{Differenti
 ghost use Rattle.med_base.specs.Effects.{Stores};
 ghost use Rattle.med_base.specs.Layout.{entry_path};
 ghost use Rattle.med_manifest.specs.EntryPuts.{start_puts, finish_puts};
-ghost use Rattle.med_outside.specs.Makes.{Makes, IsError};
+ghost use Rattle.med_outside.specs.Makes.{Makes, IsError, StopsShort};
 ghost use Rattle.med_outside.specs.State.{IsReady};
 ghost use Rattle.med_index.specs.declared.errors.ListError.TheVariants.{Store};
 ghost use Rattle.med_index.specs.Errors.{HasStoreCause};
@@ -33,6 +33,7 @@ fn put_mark<S: Storage>(
         then Stores (entry_path layout.now node.now name.now Differential) [] second ∷ [] else [])
         (S.state store.old) (S.state store.new) (S.stood store.old) (S.stood store.new) trace.old
         trace.new }
+    ensures err { StopsShort (if is_differential mode then 1 else 0) result trace.old trace.new }
     ensures ready { IsReady layout.now (S.state store.new) }
     ensures sure { OnOk result (trace.new.unsure ≡ false) }
     ensures cause { HasStoreCause (S.state store.old).faults (S.state store.new).faults result }
@@ -69,6 +70,7 @@ pub fn start_entries<S: Storage>(
         (start_puts layout.now node.now name.now (is_differential mode) tokenmap.now started
         seconds) (S.state store.old) (S.state store.new) (S.stood store.old) (S.stood store.new)
         trace.old trace.new }
+    ensures err { StopsShort (if is_differential mode then 3 else 2) result trace.old trace.new }
     ensures ready { IsReady layout.now (S.state store.new) }
     ensures sure { OnOk result (trace.new.unsure ≡ false) }
     ensures cause { HasStoreCause (S.state store.old).faults (S.state store.new).faults result }

@@ -1,7 +1,7 @@
 // Entries that are put into the index.
 ghost use Rattle.std.specs.Prelude.{◌≡◌, false, OnOk};
 ghost use Rattle.med_base.specs.Layout.{entry_path};
-ghost use Rattle.med_outside.specs.Makes.{MakesPut};
+ghost use Rattle.med_outside.specs.Makes.{MakesPut, StopsShort};
 ghost use Rattle.med_outside.specs.State.{IsReady};
 ghost use Rattle.med_index.specs.declared.errors.ListError.TheVariants.{Store};
 ghost use Rattle.med_index.specs.Errors.{HasStoreCause};
@@ -27,6 +27,7 @@ pub(crate) fn put_entry<S: Storage>(
     ensures makes { MakesPut ListError.Store (entry_path layout.now node.now name.now kind)
         bytes.now result (S.state store.old) (S.state store.new) (S.stood store.old)
         (S.stood store.new) trace.old trace.new }
+    ensures err { StopsShort 1 result trace.old trace.new }
     ensures ready { IsReady layout.now (S.state store.new) }
     ensures sure { OnOk result (trace.new.unsure ≡ false) }
     ensures cause { HasStoreCause (S.state store.old).faults (S.state store.new).faults result }

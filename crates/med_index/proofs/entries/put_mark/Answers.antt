@@ -11,3 +11,6 @@ returns-in-Full-clause-makes g c =
       nothing_yet _ _ state state stood stood c.args.trace.now c.args.trace.now _
           (λ e. rw c.in-Full.is refl) refl c.requires.sure (moves_at_rest state stood),
     )
+
+pub returns-in-Err-clause-err : goal.returns-in-Err-clause-err
+returns-in-Err-clause-err g c = rw c.in-Differential.is c.in-Err.ensures.err

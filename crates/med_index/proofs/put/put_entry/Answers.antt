@@ -1,4 +1,4 @@
-use Rattle.std.proofs.Common.{rules, ◌≡◌, ◌∙◌, [], ◌∷◌, refl, ap, arith}
+use Rattle.std.proofs.Common.{rules, ◌≡◌, ◌∙◌, [], ◌∷◌, refl, ap, arith, inr}
 use Rattle.med_base.specs.Classify.{is_data, is_data_kind}
 use Rattle.med_base.specs.Effects.{Stores}
 use Rattle.med_base.specs.Layout.{entry_path}
@@ -23,3 +23,6 @@ pub put_recorded-requires-clause-no_data : goal.put_recorded-requires-clause-no_
 put_recorded-requires-clause-no_data g c =
     ap (λ layout. is_data layout c.in-Ok.path) c.requires.ready.layout_is
     ∙ ap is_data_kind c.in-Ok.ensures.kind
+
+pub returns-in-Err-clause-err : goal.returns-in-Err-clause-err
+returns-in-Err-clause-err g c = inr (omega arith)
