@@ -6,10 +6,12 @@
 //! `Shelf::claim`.
 #![tactic(auto)]
 
+mod claiming;
 mod claims;
 mod errors;
 mod finished;
 mod placing;
+mod puts;
 mod sending;
 mod shelves;
 
