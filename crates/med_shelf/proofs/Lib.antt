@@ -1,3 +1,5 @@
 pub mod Acting
+pub mod CheckLemmas
+pub mod CheckedLists
 pub mod PlaceLemmas
 pub mod SendLemmas

@@ -6,6 +6,7 @@
 //! `Shelf::claim`.
 #![tactic(auto)]
 
+mod checking;
 mod claims;
 mod errors;
 mod finished;
