@@ -1,11 +1,11 @@
 -- What a look at the records of a backup before its finish makes, and the records afterwards.
-use Rattle.std.specs.Prelude.{◌≡◌, ℕ, Bool, List, [], Option, IfOk, IfSome, Result, IsOk, if◌then◌else◌}
+use Rattle.std.specs.Prelude.{◌≡◌, ℕ, Bool, List, [], Contains, Option, IfOk, IfSome, Result, IsOk, if◌then◌else◌}
 use Rattle.std.specs.FinMap.{get}
 use Rattle.std.specs.List.{AllByRecursion}
 use Rattle.med_base.specs.Content.{Content}
 use Rattle.med_base.specs.Effects.{Effect}
 use Rattle.med_core.specs.declared.records.Record.{Record}
-use Rattle.med_core.specs.Finish.{is_stored_as}
+use Rattle.med_core.specs.Finish.{Fresh, checked, is_stored_as, rechecked}
 use Rattle.med_core.specs.Place.{placed_record, placing}
 use Rattle.med_manifest.specs.Manifest.{IsPathOf}
 use Rattle.med_outside.specs.declared.copy_fault.CopyFault.{CopyFault}
@@ -15,7 +15,9 @@ use Rattle.med_outside.specs.Makes.{Makes, IsError}
 use Rattle.med_outside.specs.Sent.{IsWholeFile}
 use Rattle.med_outside.specs.Snapshot.{Snapshot}
 use Rattle.med_outside.specs.State.{State, History}
+use Rattle.med_shelf.specs.Finishes.{AreFresh}
 use Rattle.med_shelf.specs.Places.{IsFilePut}
+use Rattle.med_shelf.specs.Records.{files_of, keys_of}
 
 -- the object under the path of the record has its fingerprint
 abbrev pub is_kept : Content → Record → Bool
@@ -58,3 +60,36 @@ pub record ChecksRecord (before f n : List ℕ) (differential : Bool) (r : Recor
     pub makes : Makes (IsOk result) (IsError result fault.Store) xs old new stood_before
         stood_after trace_before trace_after
     pub answer : IfOk result (IsChecked before f n differential r bytes old.content)
+
+-- the change puts the file of one of the records, with all its bytes
+abbrev pub PutsOne : (before f n : List ℕ) → Option Snapshot → List Record → Effect → Type 0
+PutsOne before f n held rs x =
+    (r : Record) × (bytes : List ℕ) × Contains rs r × IsWholeFile held r.file.key bytes
+    × IsFilePut before f n r.file.key bytes x
+
+-- the records after a look at all: the same keys, each with a path of its file, and what is told
+pub record AreChecked (before f n : List ℕ) (differential : Bool) (rs : List Record) (fresh : Fresh)
+    (told : Option Content) (now : List Record) : Type 0
+  where
+    pub keys_are : keys_of now ≡ keys_of rs
+    pub paths_are : AllByRecursion
+        (λ (r : Record). IsPathOf before f n r.file.key r.file.path) now
+    pub records_are : IfSome told (λ c. now ≡ rechecked before f n differential fresh c rs)
+
+-- the records were looked at in order, and the files of those that weren't stored as recorded were
+-- placed again
+pub record ChecksRecords {T : Type 0} (before f n : List ℕ) (differential : Bool) (rs : List Record)
+    (held : Option Snapshot) (result : Result T CopyFault) (items : T → List Record)
+    (old new : State) (stood_before stood_after : History) (trace_before trace_after : Trace)
+    : Type 0
+  where
+    pub fresh : Fresh
+    pub fresh_is : AreFresh held rs fresh
+    pub xs : List Effect
+    pub puts : AllByRecursion (PutsOne before f n held rs) xs
+    pub list : IfSome old.content
+        (λ c. xs ≡ (checked before f n differential fresh c (files_of rs)).changes)
+    pub makes : Makes (IsOk result) (IsError result fault.Store) xs old new stood_before
+        stood_after trace_before trace_after
+    pub answer : IfOk result
+        (λ v. AreChecked before f n differential rs fresh old.content (items v))

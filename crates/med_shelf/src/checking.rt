@@ -1,11 +1,14 @@
 // The look at the records of a backup before its finish.
 ghost use Rattle.std.specs.Prelude.{◌≡◌, false, IfSome, option_map};
+ghost use Rattle.std.specs.List.{AllByRecursion};
+ghost use Rattle.med_base.specs.Key.{AreRising};
 ghost use Rattle.med_index.specs.Modes.{is_differential};
 ghost use Rattle.med_manifest.specs.Manifest.{IsPathOf};
 ghost use Rattle.med_outside.specs.Sent.{AsksBoth};
 ghost use Rattle.med_outside.specs.Snapshot.{HasKey};
 ghost use Rattle.med_outside.specs.State.{IsReady};
-ghost use Rattle.med_shelf.specs.Checks.{ChecksRecord};
+ghost use Rattle.med_shelf.specs.Checks.{ChecksRecord, ChecksRecords};
+ghost use Rattle.med_shelf.specs.Records.{keys_of};
 
 use crate::placing::place_file;
 use crate::sending::stands;
@@ -24,9 +27,9 @@ fn print_of(found: Option<Stat>) -> Option<Fingerprint>
     }
 }
 
-/// Looks at the path of a record: where it has the recorded fingerprint the record stays, and else
-/// the file is placed again, with a record made anew.
-pub(crate) fn check_record<S: Storage, P: Snap>(
+// Looks at the path of a record: where it has the recorded fingerprint the record stays, and else
+// the file is placed again, with a record made anew.
+fn check_record<S: Storage, P: Snap>(
     alloc: Global,
     store: &mut S,
     snap: &mut P,
@@ -57,4 +60,45 @@ pub(crate) fn check_record<S: Storage, P: Snap>(
     }
     let key = &recorded.file.key;
     place_file(alloc, store, snap, layout, node, name, mode, key, trace)
+}
+
+/// Looks at the records in order, and answers those that stay and those that were made anew. After a
+/// refusal some first of the files that weren't stored as recorded were placed again.
+pub(crate) fn check_records<S: Storage, P: Snap>(
+    alloc: Global,
+    store: &mut S,
+    snap: &mut P,
+    layout: &Layout,
+    node: &Fqdn,
+    name: &BackupName,
+    mode: Mode,
+    records: Vec<Record>,
+    trace: &mut Trace,
+) -> Result<Vec<Record>, CopyFault>
+    requires ready { IsReady layout.now (S.state store.old) }
+    requires sure { trace.old.unsure ≡ false }
+    requires keys { IfSome (P.state snap.old).held
+        (λ s. AllByRecursion (λ r. HasKey r.file.key s) records.items) }
+    requires rising { AreRising (keys_of records.items) }
+    requires paths { AllByRecursion
+        (λ r. IsPathOf layout.now node.now name.now r.file.key r.file.path) records.items }
+    ensures checks { ChecksRecords layout.now node.now name.now (is_differential mode)
+        records.items (P.state snap.old).held result (λ v. v.items) (S.state store.old)
+        (S.state store.new) (S.stood store.old) (S.stood store.new) trace.old trace.new }
+    ensures asks { AsksBoth (P.state snap.old) (P.state snap.new) (S.state store.old)
+        (S.state store.new) result }
+{
+    let mut kept = Vec::new(alloc);
+    for recorded in records {
+        match check_record(
+            alloc, store, snap, layout, node, name, mode, recorded, trace,
+        ) {
+            Ok(one) => match kept.push(one) {
+                Ok(()) => {}
+                Err(_) => return Err(CopyFault::Memory),
+            },
+            Err(fault) => return Err(fault),
+        }
+    }
+    Ok(kept)
 }
