@@ -103,7 +103,7 @@ module _ (before f n : List ℕ) (d : Bool) (key : FileKey) (node : IsFqdn f) (n
     place_section said bytes second xs done rest last split whole None is = tt
     place_section said bytes second xs done rest last split whole (Some c) is =
         section_in_part before c (running_of here)
-        (event_of f (Place n d key bytes) (copy_ending said last) done) tt
+        (event_of f (Place n d key bytes) (copy_ending said last) done)
         (record {
           node = node;
           asked = (name, runs_there f n running runs, valid);

@@ -1,4 +1,7 @@
 pub mod Acting
+pub mod CheckLemmas
+pub mod CheckSteps
+pub mod CheckedLists
 pub mod ClaimSteps
 pub mod LookSteps
 pub mod Names

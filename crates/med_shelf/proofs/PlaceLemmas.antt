@@ -77,6 +77,16 @@ module _ (before f n : List ℕ) (key : FileKey) where
       go true = refl
       go false = refl
 
+  -- each change of a place puts its file
+  pub puts_placing : (d : Bool) (bytes : List ℕ) (second : ℕ) (c : Content)
+      → AllByRecursion (IsFilePut before f n key bytes)
+      (placing before f n d key bytes second c).changes
+  puts_placing false bytes second c = ((inr refl, refl), tt)
+  puts_placing true bytes second c =
+      let o = get c (shared_path before f key) in
+      subst (AllByRecursion (IsFilePut before f n key bytes)) (list_over bytes second o)
+      (puts_beside (stands_as (print_in o) (fingerprint_of bytes)) (print_in o) bytes second)
+
   -- the record of a file
   abbrev pub record_by : (stands : Bool) → Option Fingerprint → (bytes : List ℕ) → Record
   record_by stands standing bytes = record {

@@ -155,7 +155,7 @@ in_told : (shared : List ℕ) (told : Option Content)
 in_told shared None = tt
 in_told shared (Some c) = refl
 
-stat_print : (o : Option Object)
+pub stat_print : (o : Option Object)
     → option_map (λ (s : Stat). s.fingerprint) (option_map stat_of o) ≡ print_in o
 stat_print None = refl
 stat_print (Some o) = refl

@@ -1,4 +1,5 @@
 pub mod Acts
+pub mod Checks
 pub mod Claims
 pub mod Endings
 pub mod Finishes

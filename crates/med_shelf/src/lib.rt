@@ -6,6 +6,7 @@
 //! `Shelf::claim`.
 #![tactic(auto)]
 
+mod checking;
 mod claiming;
 mod claims;
 mod errors;

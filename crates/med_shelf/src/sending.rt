@@ -26,8 +26,8 @@ pub(crate) struct Paths {
     pub own: ObjPath,
 }
 
-// Whether a shared file stands and has this fingerprint.
-fn stands(standing: Option<Fingerprint>, fingerprint: Fingerprint) -> bool
+/// Whether an object stands and has this fingerprint.
+pub(crate) fn stands(standing: Option<Fingerprint>, fingerprint: Fingerprint) -> bool
     ensures { result ≡ stands_as standing fingerprint }
 {
     match standing {
