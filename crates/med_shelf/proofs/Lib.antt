@@ -2,6 +2,7 @@ pub mod Acting
 pub mod CheckLemmas
 pub mod CheckSteps
 pub mod CheckedLists
+pub mod CheckedSoFar
 pub mod ClaimSteps
 pub mod LookSteps
 pub mod Names

@@ -8,7 +8,8 @@ use Rattle.med_manifest.specs.Manifest.{IsPathOf}
 use Rattle.med_outside.specs.declared.copy_fault.CopyFault.TheVariants.{Memory, Store}
 use Rattle.med_outside.specs.Makes.{is_unsure, took}
 use Rattle.med_outside.proofs.Passing.{ready_on}
-use Rattle.med_shelf.proofs.CheckSteps.{all_looked, as_fine, at_cut, key_at_cut, map_itself, nothing_looked, one_more, stopped}
+use Rattle.med_shelf.proofs.CheckSteps.{at_cut, key_at_cut}
+use Rattle.med_shelf.proofs.CheckedSoFar.{all_looked, as_fine, map_itself, nothing_looked, one_more, stopped}
 use Rattle.med_shelf.proofs.checking.check_records.Goals as goal
 
 pub loop-recorded-init : goal.loop-recorded-init

@@ -2,7 +2,7 @@ use Rattle.std.proofs.Common.{◌≡◌, ◌≤◌, ◌++◌}
 use Rattle.std.specs.Vec.Iter.{into_iter_items}
 use Rattle.med_index.specs.Modes.{is_differential}
 use Rattle.med_outside.specs.Snapshot.{StaysOpen}
-use Rattle.med_shelf.proofs.CheckSteps.{SoFar}
+use Rattle.med_shelf.proofs.CheckedSoFar.{SoFar}
 use Rattle.med_shelf.proofs.checking.check_records.Given as goal
 
 -- the records so far were looked at, and these are left
