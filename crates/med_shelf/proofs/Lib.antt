@@ -1,0 +1,4 @@
+pub mod ClaimSteps
+pub mod LookSteps
+pub mod Names
+pub mod PutSteps

@@ -1,5 +1,5 @@
 -- What a finish makes and answers.
-use Rattle.std.specs.Prelude.{◌≡◌, ℕ, List, Option, Some, IfOk, IfSome, Result}
+use Rattle.std.specs.Prelude.{◌≡◌, List, Option, Some, IfOk, IfSome, Result}
 use Rattle.std.specs.FinMap.{get}
 use Rattle.std.specs.List.{AllByRecursion}
 use Rattle.med_base.specs.declared.layout.MetaKind.TheVariants.{Manifest}

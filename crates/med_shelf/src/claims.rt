@@ -1,7 +1,8 @@
 // A backup that is being made.
-ghost use Rattle.std.specs.Prelude.{◌≡◌};
+ghost use Rattle.std.specs.Prelude.{◌≡◌, ◌↔◌, true, Contains};
+ghost use Rattle.med_shelf.specs.Records.{keys_of};
 
-use med_base::{BackupName, Fqdn, Layout};
+use med_base::{BackupName, FileKey, Fqdn, Layout};
 use med_core::{Mode, Record};
 use std::marker::Model;
 
@@ -57,5 +58,12 @@ impl Claim {
         ensures { result.now ≡ self.now.records }
     {
         self.records.as_slice()
+    }
+
+    /// Whether the file of the key was placed.
+    pub fn has(&self, key: &FileKey) -> bool
+        ensures { (result ≡ true) ↔ Contains (keys_of self.now.records) key.now }
+    {
+        self.records.iter().any(|record| record.file.key == *key)
     }
 }

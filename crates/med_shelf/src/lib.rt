@@ -6,9 +6,11 @@
 //! `Shelf::claim`.
 #![tactic(auto)]
 
+mod claiming;
 mod claims;
 mod errors;
 mod finished;
+mod puts;
 mod shelves;
 
 pub use claims::Claim;
