@@ -62,7 +62,7 @@ module _ (before : List ℕ) (c : Content) (running : Running) (f : List ℕ) (c
   copy_ends (Err fault.Store) done rest (Unsure x took) whole is = (rest, is)
 
 -- the running names stay after a place
-place_runs : {T : Type 0} (running : Running) (f n : List ℕ) (d : Bool) (key : FileKey)
+pub place_runs : {T : Type 0} (running : Running) (f n : List ℕ) (d : Bool) (key : FileKey)
     (bytes : List ℕ) (result : Result T CopyFault) (last : Last)
     → running_after running f (Place n d key bytes) (copy_ending result last) ≡ running
 place_runs running f n d key bytes (Ok x) last = refl

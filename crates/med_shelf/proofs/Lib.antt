@@ -1,4 +1,5 @@
 pub mod Acting
+pub mod Callers
 pub mod CheckLemmas
 pub mod CheckSteps
 pub mod CheckedLists

@@ -1,4 +1,4 @@
-//! Sections of one node that make a backup: claim, place, finish and abandon.
+//! Sections of one node that make a backup: claim, place and abandon.
 //!
 //! Each call is one section: a group of storage calls that no other section of the node interrupts.
 //! The crate takes no lock, and reads no clock but the storage's.
