@@ -23,9 +23,9 @@ use Rattle.med_core.proofs.Law.{run_safe, section_end, section_safe}
 use Rattle.med_core.proofs.Parts.{begun_agrees, part_agrees, run_of_parts}
 use Rattle.med_core.proofs.Removals.{counts_bytes, counts_files, removal_is_after}
 use Rattle.med_core.proofs.SafeByKind.{AreApart, SafeAlongByKind, SafeByKind}
-use Rattle.med_core.proofs.Sections.{BegunByKind, FreeByKind, HasNamed, IsUnder, ListByKind, RunOfParts, SafeThroughByKind, SectionByKind, part, part_same}
+use Rattle.med_core.proofs.Sections.{BegunByKind, FreeByKind, FrontByKind, HasNamed, IsUnder, ListByKind, LookByKind, RunOfParts, SafeThroughByKind, SectionByKind, part, part_same}
 use Rattle.med_core.proofs.Stores.{other_part, section_part}
-use Rattle.med_core.proofs.Totals.{list_total}
+use Rattle.med_core.proofs.Totals.{front_total}
 use Rattle.med_core.specs.After.{IsAfter, content_after}
 use Rattle.med_core.specs.Counts.{as_bytes, as_file, removed_bytes, removed_files, weighed}
 use Rattle.med_core.specs.Exact.{IsBegunWell}
@@ -35,7 +35,7 @@ use Rattle.med_core.specs.Reach.{AreWithin}
 use Rattle.med_core.specs.Removal.{changes_of_removal}
 use Rattle.med_core.specs.Run.{IsRun, effects, next_content, next_running}
 use Rattle.med_core.specs.Safe.{AreIndexesSound, AreUnfinished, IsSafe, IsSafeAlong, IsSafeThrough, IsWholeBackup, RunsIn, RunsThrough, kept_after, kept_after_all}
-use Rattle.med_core.specs.Section.{Abandon, Call, Claim, Done, Ending, EndsSo, Event, Finish, Halted, IsAsked, IsFree, IsListOf, IsSection, Place, Rebuild, Refused, Remove, Running, Stopped, Unsure}
+use Rattle.med_core.specs.Section.{Abandon, Call, Claim, Done, Ending, EndsSo, Event, Finish, Halted, IsAsked, IsBegunList, IsFree, IsListOf, IsLookOf, IsSection, Place, Rebuild, Refused, Remove, Running, Stopped, Unsure}
 use Rattle.med_manifest.proofs.ByKind.{IsFileOf, IsProper, KeyByKind, NameByKind, StoredByPath, Text, WholeByKind, at, file_by_kind, key_by_kind, name_by_kind, node_by_kind, only}
 use Rattle.med_manifest.proofs.IndexByKind.{rebuild_same}
 use Rattle.med_manifest.proofs.IndexJoined.{exact_kind, finished_kind, kind_exact, kind_finished, kind_sound, meta_has, names_of, sound_kind}
@@ -239,6 +239,29 @@ list_kind before c r f node (Remove names grace now) (are, order) xs (
 list_kind before c r f node Rebuild asked xs (read, (G, t, u, given, is)) =
     (node_by_kind before f node, (G, t, u, given, is ∙ rebuild_same before c f G t u))
 
+look_kind : (before : Text) (c : Content) (r : Running) (f : Text) → IsFqdn f → (call : Call)
+    → IsAsked before r f call → (xs : List Effect) → IsLookOf before c f call xs
+    → LookByKind before c r f call xs
+look_kind before c r f node (Finish n d records) (name, runs, rising, are) xs (fresh, is) = (
+  runs,
+  rising_apart records rising,
+  All-from_recursion (λ (q : FileRecord). KeyByKind before f n q.key) records
+      (records_keyed before f n node name records are),
+  All-from_recursion (IsFileOf before f n) records (records_files before f n node name records are),
+  (fresh, is),
+)
+look_kind before c r f node (Claim n d schema ring) asked xs h = absurd h
+look_kind before c r f node (Place n d k b) asked xs h = absurd h
+look_kind before c r f node (Abandon n) asked xs h = absurd h
+look_kind before c r f node (Remove names grace now) asked xs h = absurd h
+look_kind before c r f node Rebuild asked xs h = absurd h
+
+pub front_kind : (before : Text) (c : Content) (r : Running) (f : Text) → IsFqdn f → (call : Call)
+    → IsAsked before r f call → (xs : List Effect) → IsBegunList before c r f call xs
+    → FrontByKind before c r f call xs
+front_kind before c r f node call asked xs (inl h) = inl (list_kind before c r f node call asked xs h)
+front_kind before c r f node call asked xs (inr h) = inr (look_kind before c r f node call asked xs h)
+
 pub section_kind : (before : Text) (c : Content) (r : Running) (e : Event) → IsSection before c r e
     → SectionByKind before c r e
 section_kind before c r e s = go e.ending e.changes s.ends
@@ -247,15 +270,19 @@ section_kind before c r e s = go e.ending e.changes s.ends
         e.call xs
     list xs h = list_kind before c r e.node s.node e.call s.asked xs h
 
+    front : (xs : List Effect) → IsBegunList before c r e.node e.call xs
+        → FrontByKind before c r e.node e.call xs
+    front xs h = front_kind before c r e.node s.node e.call s.asked xs h
+
     go : (end : Ending) (xs : List Effect) → EndsSo before c r e.node e.call end xs
         → BegunByKind before c r e.node e.call end xs
     go Done xs h = list xs h
     go (Refused why) xs h = h.0
     go (Halted by) xs (inl none) = inl none
-    go (Halted by) xs (inr (rest, left, h)) = inr (rest, list (xs ++ rest) h)
-    go (Unsure x took) xs (rest, h) = (rest, list (xs ++ x ∷ rest) h)
+    go (Halted by) xs (inr (rest, left, h)) = inr (rest, front (xs ++ rest) h)
+    go (Unsure x took) xs (rest, h) = (rest, front (xs ++ x ∷ rest) h)
     go Stopped xs (inl none) = inl none
-    go Stopped xs (inr (rest, h)) = inr (rest, list (xs ++ rest) h)
+    go Stopped xs (inr (rest, h)) = inr (rest, front (xs ++ rest) h)
 
 pub run_kind : (before : Text) (es : List Event) (c : Content) (r : Running) → IsRun before c r es
     → RunOfParts before c r es
@@ -407,10 +434,10 @@ bytes_counted before c f names named grace now t node =
     counts_bytes before c f names named grace now t (node_by_kind before f node)
 
 pub lists_within : (before : Text) (c : Content) (r : Running) (f : Text) (call : Call)
-    (xs : List Effect) → IsFqdn f → IsAsked before r f call → IsListOf before c r f call xs
+    (xs : List Effect) → IsFqdn f → IsAsked before r f call → IsBegunList before c r f call xs
     → AreWithin before f call xs
-lists_within before c r f call xs node asked list = list_total before c r f
-    (node_by_kind before f node) call xs (list_kind before c r f node call asked xs list)
+lists_within before c r f call xs node asked list = front_total before c r f
+    (node_by_kind before f node) call xs (front_kind before c r f node call asked xs list)
 
 pub own_part_goes_on : (before : Text) (c : Content) (r : Running) (e : Event) → IsSection before
     (node_part before e.node c) r e → node_part before e.node (next_content c e)

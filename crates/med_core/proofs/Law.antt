@@ -11,7 +11,7 @@ use Rattle.med_core.proofs.Mends.{mend_fits, rebuild_fits}
 use Rattle.med_core.proofs.Places.{claim_quiet, finish_fits, good_check, good_placing}
 use Rattle.med_core.proofs.Removes.{remove_fits}
 use Rattle.med_core.proofs.SafeByKind.{SafeAlongByKind, SafeByKind}
-use Rattle.med_core.proofs.Sections.{BegunByKind, IsUnder, ListByKind, RunByKind, SafeThroughByKind, SectionByKind}
+use Rattle.med_core.proofs.Sections.{BegunByKind, FrontByKind, IsUnder, ListByKind, LookByKind, RunByKind, SafeThroughByKind, SectionByKind}
 use Rattle.med_core.specs.Claim.{changes_of_claim}
 use Rattle.med_core.specs.Finish.{checked, manifest_puts}
 use Rattle.med_core.specs.Run.{effects, effects_of, is_same_backup, next_content, next_running, running_after, without}
@@ -109,6 +109,24 @@ module _ (before : Text) where
       (All-from_recursion (λ x. IsGivenAs before c f x.1 (kind_of before x.0))
       (pairs G (fin.keys G)) (pairs_given before f c G h (fin.keys G))))
 
+  look_fits : (c : Content) (r q : Running) (f : Text) → ((n : Text) → Contains r (f, n)
+      → ¬ (FinishedByKind before c f n)) → (call : Call) → (xs : List Effect)
+      → LookByKind before c r f call xs → FitsAll before c (RunsThrough r q) xs
+  look_fits c r q f idle (Finish n d records) xs (runs, apart, keyed, files, (x, e)) = subst
+      (FitsAll before c (RunsThrough r q)) (sym e) (good_check before (RunsThrough r q) f n d x
+      records c (idle n runs) apart keyed files).fits
+  look_fits c r q f idle (Claim n d schema ring) xs h = absurd h
+  look_fits c r q f idle (Place n d k b) xs h = absurd h
+  look_fits c r q f idle (Abandon n) xs h = absurd h
+  look_fits c r q f idle (Remove names grace now) xs h = absurd h
+  look_fits c r q f idle Rebuild xs h = absurd h
+
+  begun_fits : (c : Content) (r q : Running) (f : Text) → ((n : Text) → Contains r (f, n)
+      → ¬ (FinishedByKind before c f n)) → (call : Call) → IsClosed f call q → (xs : List Effect)
+      → FrontByKind before c r f call xs → FitsAll before c (RunsThrough r q) xs
+  begun_fits c r q f idle call closed xs (inl h) = list_fits c r q f idle call closed xs h
+  begun_fits c r q f idle call closed xs (inr h) = look_fits c r q f idle call xs h
+
   effects_fit : (c : Content) (r q : Running) (f : Text) → ((n : Text) → Contains r (f, n)
       → ¬ (FinishedByKind before c f n)) → (call : Call) → IsClosed f call q
       → (end : Ending) (xs : List Effect) → BegunByKind before c r f call end xs
@@ -119,17 +137,17 @@ module _ (before : Text) where
   effects_fit c r q f idle call closed (Halted by) xs (inl none) = subst
       (FitsAll before c (RunsThrough r q)) (sym none) tt
   effects_fit c r q f idle call closed (Halted by) xs (inr (rest, h)) = fits_front before
-      (RunsThrough r q) xs rest c (list_fits c r q f idle call closed (xs ++ rest) h)
+      (RunsThrough r q) xs rest c (begun_fits c r q f idle call closed (xs ++ rest) h)
   effects_fit c r q f idle call closed Stopped xs (inl none) = subst
       (FitsAll before c (RunsThrough r q)) (sym none) tt
   effects_fit c r q f idle call closed Stopped xs (inr (rest, h)) = fits_front before
-      (RunsThrough r q) xs rest c (list_fits c r q f idle call closed (xs ++ rest) h)
+      (RunsThrough r q) xs rest c (begun_fits c r q f idle call closed (xs ++ rest) h)
   effects_fit c r q f idle call closed (Unsure x false) xs (rest, h) = fits_front before
-      (RunsThrough r q) xs (x ∷ rest) c (list_fits c r q f idle call closed (xs ++ x
+      (RunsThrough r q) xs (x ∷ rest) c (begun_fits c r q f idle call closed (xs ++ x
       ∷ rest) h)
   effects_fit c r q f idle call closed (Unsure x true) xs (rest, h) = fits_front before
       (RunsThrough r q) (xs ++ x ∷ []) rest c
-      (rw append_assoc (list_fits c r q f idle call closed (xs ++ x ∷ rest) h))
+      (rw append_assoc (begun_fits c r q f idle call closed (xs ++ x ∷ rest) h))
 
   -- the name of a claim that was done is not finished
   new_idle : (c : Content) (r : Running) (f : Text) (call : Call) (end : Ending) (xs : List Effect)

@@ -18,7 +18,7 @@ use Rattle.med_manifest.specs.declared.manifest.FileRecord.{FileRecord}
 use Rattle.med_manifest.specs.Manifest.{IsManifest}
 use Rattle.med_manifest.specs.Index.{IsGiven}
 use Rattle.med_manifest.specs.Listed.{paths_of}
-use Rattle.med_manifest.specs.Mend.{changes_of_mend, is_manifest_outside, name_in}
+use Rattle.med_manifest.specs.Mend.{is_manifest_outside, name_in}
 use Rattle.med_manifest.specs.Reads.{DoAllRead, DoesRead, IsFirstUnread}
 use Rattle.med_manifest.specs.Vault.{IsBackup}
 use Rattle.med_manifest.specs.Whole.{HasManifest}
@@ -29,12 +29,12 @@ use Rattle.med_manifest.proofs.IndexByKind.{IsGivenAs, pairs, rebuild_same}
 use Rattle.med_manifest.proofs.IndexJoined.{meta_has}
 use Rattle.med_manifest.proofs.Members.{IsListed, all_listed}
 use Rattle.med_manifest.proofs.Rebuilds.{pairs_given, rebuild_is}
-use Rattle.med_core.specs.Finish.{Checked, Fresh, checked, changes_of_finish, manifest_puts}
+use Rattle.med_core.specs.Finish.{Checked, checked, changes_of_finish, manifest_puts}
 use Rattle.med_core.specs.Outside.{IsNamedOutside}
-use Rattle.med_core.specs.Section.{Abandon, Call, Claim, Done, Ending, EndsSo, Event, Finish, Halted, IsAsked, IsListOf, IsRefusedFor, IsRunning, IsTaken, HasBadManifest, IsNoBackup, IsSection, Place, Rebuild, Refusal, Refused, Remove, Running, Stopped, Unsure}
+use Rattle.med_core.specs.Section.{Abandon, Call, Claim, Done, Ending, EndsSo, Event, Finish, Halted, IsAsked, IsBegunList, IsListOf, IsLookOf, IsRefusedFor, IsRunning, IsTaken, HasBadManifest, IsNoBackup, IsSection, Place, Rebuild, Refusal, Refused, Remove, Running, Stopped, Unsure}
 use Rattle.med_core.proofs.Joined.{names_kind, records_files, records_keyed}
 use Rattle.med_core.proofs.Parts.{Agree, agree_applied, and_first, at_agrees, candidate_owned, checked_agrees, map_agrees, mend_agrees, mine, part_agrees, paths_agree, placing_agrees, rebuild_agrees, remove_agrees}
-use Rattle.med_core.proofs.Sections.{part, part_same}
+use Rattle.med_core.proofs.Sections.{part_same}
 
 -- ---- what lies under a folder
 
@@ -301,6 +301,30 @@ module _ (before f : Text) (node : IsFqdn f) where
           ),
         )
 
+    -- the look at the records of a finish
+    look_in_part : (r : Running) (call : Call) → IsAsked before r f call
+        → (xs : List Effect) → IsLookOf before c f call xs
+        → IsLookOf before (node_part before f c) f call xs
+    look_in_part r (Finish n d records) (name, runs, rising, are) xs (fresh, is) = (
+      fresh,
+      is ∙ ap (λ y. y.changes) (checked_agrees before f n d fresh records c (node_part before f c)
+          agree (All-from_recursion (λ (q : FileRecord). KeyByKind before f n q.key) records
+          (records_keyed before f n node name records are))
+          (All-from_recursion (IsFileOf before f n) records
+          (records_files before f n node name records are))),
+    )
+    look_in_part r (Claim n d schema ring) asked xs is = absurd is
+    look_in_part r (Place n d k b) asked xs is = absurd is
+    look_in_part r (Abandon n) asked xs is = absurd is
+    look_in_part r (Remove names grace now) asked xs is = absurd is
+    look_in_part r Rebuild asked xs is = absurd is
+
+    begun_in_part : (r : Running) (call : Call) → IsAsked before r f call
+        → (xs : List Effect) → IsBegunList before c r f call xs
+        → IsBegunList before (node_part before f c) r f call xs
+    begun_in_part r call asked xs (inl is) = inl (list_in_part r call asked xs is)
+    begun_in_part r call asked xs (inr is) = inr (look_in_part r call asked xs is)
+
     -- why it makes no change
     refusal_in_part : (r : Running) (call : Call) (why : Refusal)
         → IsRefusedFor before c r f call why
@@ -331,12 +355,12 @@ module _ (before f : Text) (node : IsFqdn f) where
     ends_in_part r call asked (Refused why) xs is = (is.0, refusal_in_part r call why is.1)
     ends_in_part r call asked (Halted by) xs (inl none) = inl none
     ends_in_part r call asked (Halted by) xs (inr (rest, left, is)) =
-        inr (rest, left, list_in_part r call asked (xs ++ rest) is)
+        inr (rest, left, begun_in_part r call asked (xs ++ rest) is)
     ends_in_part r call asked (Unsure x took) xs (rest, is) =
-        (rest, list_in_part r call asked (xs ++ x ∷ rest) is)
+        (rest, begun_in_part r call asked (xs ++ x ∷ rest) is)
     ends_in_part r call asked Stopped xs (inl none) = inl none
     ends_in_part r call asked Stopped xs (inr (rest, is)) =
-        inr (rest, list_in_part r call asked (xs ++ rest) is)
+        inr (rest, begun_in_part r call asked (xs ++ rest) is)
 
 -- a section over a content is one over the part of its node
 pub section_in_part : (before : Text) (c : Content) (r : Running) (e : Event)

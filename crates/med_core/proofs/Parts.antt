@@ -14,7 +14,7 @@ use Rattle.med_base.specs.Kinds.{Entry, Kind, Latest, Meta, Own, Shared, Stray}
 use Rattle.med_base.specs.declared.key.FileKey.{FileKey}
 use Rattle.med_base.specs.declared.layout.MetaKind.{MetaKind}
 use Rattle.med_core.proofs.SafeByKind.{finish_with}
-use Rattle.med_core.proofs.Sections.{BegunByKind, IsUnder, ListByKind, RunByKind, RunOfParts, is_owned, part}
+use Rattle.med_core.proofs.Sections.{BegunByKind, FrontByKind, IsUnder, ListByKind, LookByKind, RunByKind, RunOfParts, is_owned, part}
 use Rattle.med_core.specs.Finish.{Fresh, checked, is_stored_as, manifest_puts, with_placing, with_record}
 use Rattle.med_core.specs.Place.{placing, placing_over}
 use Rattle.med_core.specs.Removal.{changes_of_removal, is_content_of, is_old, is_shared_of, old_unnamed, paths_of_backup}
@@ -402,6 +402,26 @@ module _ (before : Text) (f : Text) where
         ),
       )
 
+  look_agrees : (c d : Content) → Agree before f c d → (r : Running) (call : Call)
+      (xs : List Effect) → LookByKind before c r f call xs → LookByKind before d r f call xs
+  look_agrees c d h r (Finish n e records) xs (runs, apart, keyed, files, (x, is)) = (
+    runs,
+    apart,
+    keyed,
+    files,
+    (x, is ∙ ap (λ y. y.changes) (checked_agrees n e x records c d h keyed files)),
+  )
+  look_agrees c d h r (Claim n e schema ring) xs k = absurd k
+  look_agrees c d h r (Place n e key b) xs k = absurd k
+  look_agrees c d h r (Abandon n) xs k = absurd k
+  look_agrees c d h r (Remove names grace now) xs k = absurd k
+  look_agrees c d h r Rebuild xs k = absurd k
+
+  front_agrees : (c d : Content) → Agree before f c d → (r : Running) (call : Call)
+      (xs : List Effect) → FrontByKind before c r f call xs → FrontByKind before d r f call xs
+  front_agrees c d h r call xs (inl k) = inl (list_agrees c d h r call xs k)
+  front_agrees c d h r call xs (inr k) = inr (look_agrees c d h r call xs k)
+
   pub begun_agrees : (c d : Content) → Agree before f c d → (r : Running) (call : Call)
       (end : Ending) (xs : List Effect) → BegunByKind before c r f call end xs
       → BegunByKind before d r f call end xs
@@ -410,18 +430,18 @@ module _ (before : Text) (f : Text) where
   begun_agrees c d h r call (Halted by) xs (inl none) = inl none
   begun_agrees c d h r call (Halted by) xs (inr (rest, k)) = inr (
     rest,
-    list_agrees c d h r call (xs
+    front_agrees c d h r call (xs
         ++ rest) k,
   )
   begun_agrees c d h r call Stopped xs (inl none) = inl none
   begun_agrees c d h r call Stopped xs (inr (rest, k)) = inr (
     rest,
-    list_agrees c d h r call (xs
+    front_agrees c d h r call (xs
         ++ rest) k,
   )
   begun_agrees c d h r call (Unsure x took) xs (rest, k) = (
     rest,
-    list_agrees c d h r call (xs ++ x
+    front_agrees c d h r call (xs ++ x
         ∷ rest) k,
   )
 

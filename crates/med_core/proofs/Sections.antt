@@ -63,15 +63,28 @@ ListByKind before c r f (Remove names grace now) xs = NodeByKind before f
 ListByKind before c r f Rebuild xs = NodeByKind before f × ((G : Entries) × (t : ℕ → ℕ)
     × (u : Text → ℕ) × IsGiven before c f G × (xs ≡ rebuild_by before c f G t u))
 
+-- these are all the changes of a look at the records of a finish
+abbrev pub LookByKind : Text → Content → Running → Text → Call → List Effect → Type 0
+LookByKind before c r f (Finish n d records) xs = Contains r (f, n) × AreApart records
+    × All (λ (q : FileRecord). KeyByKind before f n q.key) records
+    × All (IsFileOf before f n) records
+    × ((x : Fresh) × (xs ≡ (checked before f n d x c records).changes))
+LookByKind before c r f _ xs = ⊥
+
+-- a call that was cut short had begun these changes
+abbrev pub FrontByKind : Text → Content → Running → Text → Call → List Effect → Type 0
+FrontByKind before c r f call xs = ListByKind before c r f call xs
+    ⊎ LookByKind before c r f call xs
+
 abbrev pub BegunByKind : Text → Content → Running → Text → Call → Ending → List Effect → Type 0
 BegunByKind before c r f call Done xs = ListByKind before c r f call xs
 BegunByKind before c r f call (Refused why) xs = xs ≡ []
 BegunByKind before c r f call (Halted by) xs = (xs ≡ []) ⊎ ((rest : List Effect)
-    × ListByKind before c r f call (xs ++ rest))
+    × FrontByKind before c r f call (xs ++ rest))
 BegunByKind before c r f call (Unsure x took) xs = (rest : List Effect)
-    × ListByKind before c r f call (xs ++ x ∷ rest)
+    × FrontByKind before c r f call (xs ++ x ∷ rest)
 BegunByKind before c r f call Stopped xs = (xs ≡ []) ⊎ ((rest : List Effect)
-    × ListByKind before c r f call (xs ++ rest))
+    × FrontByKind before c r f call (xs ++ rest))
 
 abbrev pub SectionByKind : Text → Content → Running → Event → Type 0
 SectionByKind before c r e = BegunByKind before c r e.node e.call e.ending e.changes

@@ -7,7 +7,7 @@ use Rattle.med_base.specs.Content.{Content, Object}
 use Rattle.med_base.specs.Effects.{Effect, Removes, Stores, applied, made}
 use Rattle.med_base.specs.Kinds.{Entry, Kind, Latest, Meta, Own, Shared, Stray}
 use Rattle.med_core.proofs.Sections.{AreOwned, BegunByKind, SectionByKind, is_owned, part}
-use Rattle.med_core.proofs.Totals.{list_total, total_owned}
+use Rattle.med_core.proofs.Totals.{front_total, list_total, total_owned}
 use Rattle.med_core.specs.Run.{effects, effects_of, next_content}
 use Rattle.med_core.specs.Section.{Call, Done, Ending, Event, Halted, Refused, Running, Stopped, Unsure}
 use Rattle.med_manifest.proofs.ByKind.{NodeByKind, Text}
@@ -117,16 +117,16 @@ module _ (before : Text) (r : Running) where
   effects_owned d f node call (Refused why) xs h = subst (AreOwned before f) (sym h) tt
   effects_owned d f node call (Halted by) xs (inl none) = subst (AreOwned before f) (sym none) tt
   effects_owned d f node call (Halted by) xs (inr (rest, h)) = front before f xs rest
-      (total_owned before f call (xs ++ rest) (list_total before d r f node call (xs ++ rest) h))
+      (total_owned before f call (xs ++ rest) (front_total before d r f node call (xs ++ rest) h))
   effects_owned d f node call Stopped xs (inl none) = subst (AreOwned before f) (sym none) tt
   effects_owned d f node call Stopped xs (inr (rest, h)) = front before f xs rest
-      (total_owned before f call (xs ++ rest) (list_total before d r f node call (xs ++ rest) h))
+      (total_owned before f call (xs ++ rest) (front_total before d r f node call (xs ++ rest) h))
   effects_owned d f node call (Unsure x false) xs (rest, h) = front before f xs (x ∷ rest)
-      (total_owned before f call (xs ++ x ∷ rest) (list_total before d r f node call (xs ++ x
+      (total_owned before f call (xs ++ x ∷ rest) (front_total before d r f node call (xs ++ x
       ∷ rest) h))
   effects_owned d f node call (Unsure x true) xs (rest, h) = front before f (xs ++ x ∷ []) rest
       (subst (AreOwned before f) (sym (append_assoc xs (x ∷ []) rest)) (total_owned before f call
-      (xs ++ x ∷ rest) (list_total before d r f node call (xs ++ x ∷ rest) h)))
+      (xs ++ x ∷ rest) (front_total before d r f node call (xs ++ x ∷ rest) h)))
 
   -- the node's part goes on as the section says, all others stay
   pub section_part : (c : Content) (v : Event) → NodeByKind before v.node → SectionByKind before

@@ -1,5 +1,5 @@
 -- Each change of a call is at a path that the call may change.
-use Rattle.std.proofs.Common.{◌≡◌, ℕ, Bool, true, false, cond, ◌&&◌, not, List, [], ◌∷◌, Some, None, Option, refl, sym, ◌∙◌, ap, subst, All, Contains, bytes_eq}
+use Rattle.std.proofs.Common.{◌≡◌, ℕ, Bool, true, false, cond, ◌&&◌, not, List, [], ◌∷◌, Some, None, Option, refl, sym, ◌∙◌, ap, subst, inl, inr, All, Contains, bytes_eq}
 use Rattle.std.specs.List.{AllByRecursion, list_any}
 use Rattle.std.proofs.lemmas.List.Elements.{All-head, All-tail}
 use Rattle.std.specs.FinMap as fin
@@ -14,7 +14,7 @@ use Rattle.med_base.specs.declared.key.FileKey.{FileKey}
 use Rattle.med_core.proofs.Afters.{all_go}
 use Rattle.med_core.proofs.Kept.{claim_has, claim_is, claim_spots, finish_spots}
 use Rattle.med_core.proofs.Removals.{mend_all}
-use Rattle.med_core.proofs.Sections.{AreOwned, ListByKind, is_owned}
+use Rattle.med_core.proofs.Sections.{AreOwned, FrontByKind, ListByKind, LookByKind, is_owned}
 use Rattle.med_core.specs.After.{is_removed}
 use Rattle.med_core.specs.Finish.{Checked, Fresh, checked, is_stored_as, manifest_puts, with_placing, with_record}
 use Rattle.med_core.specs.Place.{Placing, is_same_print, placing, placing_over, reused, stored_own}
@@ -207,6 +207,22 @@ module _ (before : Text) (c : Content) (r : Running) (f : Text) (node : NodeByKi
       (kind_of before p)) (λ q. not (fin.contains_key G q)) (λ q e k. entry_deleted f Rebuild
       (kind_of before q) k.0) _ (all_listed before c (is_entry_of_node f))))
       (given_total before f Rebuild c G given u (fin.keys G))))
+
+  look_total : (call : Call) (xs : List Effect) → LookByKind before c r f call xs
+      → AreWithin before f call xs
+  look_total (Finish n d records) xs (among, apart, keys, files, (x, is)) =
+      subst (AreWithin before f (Finish n d records)) (sym is)
+      (checked_total before f (Finish n d records) n d x records c keys)
+  look_total (Claim n d schema ring) xs h = absurd h
+  look_total (Place n d k b) xs h = absurd h
+  look_total (Abandon n) xs h = absurd h
+  look_total (Remove names grace now) xs h = absurd h
+  look_total Rebuild xs h = absurd h
+
+  pub front_total : (call : Call) (xs : List Effect) → FrontByKind before c r f call xs
+      → AreWithin before f call xs
+  front_total call xs (inl h) = list_total call xs h
+  front_total call xs (inr h) = look_total call xs h
 
 owned_kind : (f g : Text) → g ≡ f → bytes_eq g f ≡ true
 owned_kind f g e = ap (λ x. bytes_eq x f) e ∙ same_itself f

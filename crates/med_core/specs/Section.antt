@@ -143,11 +143,23 @@ IsLeft (Claim n is_differential schema ring) rest = rest ≢ []
 IsLeft (Abandon n) rest = ⊥
 IsLeft _ rest = Unit {0}
 
--- the changes begin the list of the call, or there is none
+-- these are all the changes of a look at the records of a finish. A file that is placed again may be
+-- too large for a manifest, and then no more of the finish follows
+abbrev pub IsLookOf : List ℕ → Content → List ℕ → Call → List Effect → Type 0
+IsLookOf before c f (Finish n is_differential records) xs =
+    (fresh : Fresh) × (xs ≡ (checked before f n is_differential fresh c records).changes)
+IsLookOf before c f _ xs = ⊥
+
+-- a call that was cut short had begun these changes
+abbrev pub IsBegunList : List ℕ → Content → Running → List ℕ → Call → List Effect → Type 0
+IsBegunList before c running f call xs =
+    IsListOf before c running f call xs ⊎ IsLookOf before c f call xs
+
+-- the changes begin those of the call, or there is none
 abbrev pub BeginsList : List ℕ → Content → Running → List ℕ → Call → List Effect → Type 0
 BeginsList before c running f call xs =
     (xs ≡ [])
-    ⊎ ((rest : List Effect) × IsLeft call rest × IsListOf before c running f call (xs ++ rest))
+    ⊎ ((rest : List Effect) × IsLeft call rest × IsBegunList before c running f call (xs ++ rest))
 
 -- the changes were made where the call ended so
 abbrev pub EndsSo : List ℕ → Content → Running → List ℕ → Call → Ending → List Effect → Type 0
@@ -156,9 +168,9 @@ EndsSo before c running f call (Refused why) xs =
     (xs ≡ []) × IsRefusedFor before c running f call why
 EndsSo before c running f call (Halted by) xs = BeginsList before c running f call xs
 EndsSo before c running f call (Unsure x took_effect) xs =
-    (rest : List Effect) × IsListOf before c running f call (xs ++ x ∷ rest)
+    (rest : List Effect) × IsBegunList before c running f call (xs ++ x ∷ rest)
 EndsSo before c running f call Stopped xs =
-    (xs ≡ []) ⊎ ((rest : List Effect) × IsListOf before c running f call (xs ++ rest))
+    (xs ≡ []) ⊎ ((rest : List Effect) × IsBegunList before c running f call (xs ++ rest))
 
 -- a call on a node's backups, with the changes that it made
 pub record Event : Type 0 where

@@ -18,7 +18,7 @@ ghost use Rattle.med_core.specs.Reach.{AreWithin};
 ghost use Rattle.med_core.specs.Removal.{changes_of_removal};
 ghost use Rattle.med_core.specs.Run.{IsRun, next_content, next_running, effects};
 ghost use Rattle.med_core.specs.Safe.{IsSafe, IsSafeAlong, IsSafeThrough, IsWholeBackup, AreIndexesSound, AreUnfinished, RunsIn, RunsThrough, kept_after_all};
-ghost use Rattle.med_core.specs.Section.{Call, Event, Running, Refusal, IsNoBackup, IsAsked, IsListOf, IsRefusedFor, IsSection};
+ghost use Rattle.med_core.specs.Section.{Call, Event, Running, Refusal, IsNoBackup, IsAsked, IsBegunList, IsListOf, IsRefusedFor, IsSection};
 ghost use Rattle.med_core.specs.Exact.{IsBegunWell};
 
 /// A law: every moment of every run is safe. However sections of any nodes follow one another, and
@@ -103,7 +103,7 @@ pub fn index_stays_exact()
 pub fn sections_keep_to_their_node()
     ensures within { (before : List ℕ) (c : Content) (running : Running) (f : List ℕ) (call : Call)
         (xs : List Effect) → IsFqdn f → IsAsked before running f call
-        → IsListOf before c running f call xs → AreWithin before f call xs }
+        → IsBegunList before c running f call xs → AreWithin before f call xs }
     ensures own { (before : List ℕ) (c : Content) (running : Running) (e : Event)
         → IsSection before (node_part before e.node c) running e
         → node_part before e.node (next_content c e)
