@@ -1,5 +1,5 @@
 -- A call of a shelf as a section of its node, and the records of a claim.
-use Rattle.std.proofs.Common.{◌≡◌, ◌∙◌, ◌<◌, ℕ, Bool, true, false, List, [], ◌∷◌, ◌++◌, map, append-nil, Option, Some, None, Result, Ok, Err, IsOk, IfOk, IfSome, inl, inr, refl, sym, ap, subst}
+use Rattle.std.proofs.Common.{◌≡◌, ◌∙◌, ℕ, Bool, true, false, List, [], ◌∷◌, ◌++◌, map, append-nil, Option, Some, None, Result, Ok, Err, IsOk, IfSome, inl, inr, refl, sym, ap, subst}
 use Rattle.std.specs.Cmp.{eq_by_cmp_equiv}
 use Rattle.std.specs.List.{AllByRecursion, Contains, IsDistinct, list_any}
 use Rattle.std.proofs.lemmas.List.{map-append}
@@ -19,7 +19,7 @@ use Rattle.med_core.specs.declared.records.Record.{Record}
 use Rattle.med_core.specs.Place.{placing}
 use Rattle.med_core.specs.Reach.{MayChange, MayStore}
 use Rattle.med_core.specs.Run.{running_after}
-use Rattle.med_core.specs.Section.{BeginsList, Call, EndsSo, IsLeft, IsListOf, IsSection, Place, Running}
+use Rattle.med_core.specs.Section.{BeginsList, Call, EndsSo, IsBegunList, IsLeft, IsListOf, IsSection, Place, Running}
 use Rattle.med_core.proofs.OverParts.{section_in_part}
 use Rattle.med_index.specs.Modes.{is_differential}
 use Rattle.med_manifest.specs.Manifest.{IsPathOf}
@@ -33,7 +33,7 @@ use Rattle.med_outside.specs.Snapshot.{Snapshot}
 use Rattle.med_outside.specs.State.{State, History}
 use Rattle.med_shelf.specs.Acts.{ActsAsCopy, event_of}
 use Rattle.med_shelf.specs.Endings.{copy_ending}
-use Rattle.med_shelf.specs.Places.{IsFilePut, IsRecordOf, Places, PlacesFile, RecordsFile, with_record}
+use Rattle.med_shelf.specs.Places.{IsFilePut, Places, PlacesFile, with_record}
 use Rattle.med_shelf.specs.Records.{AreRecordsOf, keys_of}
 use Rattle.med_shelf.specs.Shelf.{ClaimState, IsClaimOf, ShelfState, running_of}
 
@@ -42,24 +42,25 @@ use Rattle.med_shelf.specs.Shelf.{ClaimState, IsClaimOf, ShelfState, running_of}
 -- any part of the list of the call may be left
 module _ (before : List ℕ) (c : Content) (running : Running) (f : List ℕ) (call : Call)
     (left : (rest : List Effect) → IsLeft call rest) where
-  begun : (done rest : List Effect) → IsListOf before c running f call (done ++ rest)
+  begun : (done rest : List Effect) → IsBegunList before c running f call (done ++ rest)
       → BeginsList before c running f call done
   begun done rest is = inr (rest, left rest, is)
 
   -- what a copy made of the list, by its answer
   pub copy_ends : {T : Type 0} (result : Result T CopyFault) (done rest : List Effect) (last : Last)
       → (IsOk result → (last ≡ Sure) × (rest ≡ []))
-      → IsListOf before c running f call (done ++ (tried last ++ rest))
+      → (IsOk result → IsListOf before c running f call (done ++ (tried last ++ rest)))
+      → IsBegunList before c running f call (done ++ (tried last ++ rest))
       → EndsSo before c running f call (copy_ending result last) done
-  copy_ends (Ok x) done rest last whole is =
+  copy_ends (Ok x) done rest last whole list is =
       let ended = whole refl in
       subst (IsListOf before c running f call)
       (ap (λ l. done ++ (tried l ++ rest)) ended.0 ∙ ap (λ l. done ++ l) ended.1
-      ∙ append-nil done) is
-  copy_ends (Err fault.Snap) done rest last whole is = begun done (tried last ++ rest) is
-  copy_ends (Err fault.Memory) done rest last whole is = begun done (tried last ++ rest) is
-  copy_ends (Err fault.Store) done rest Sure whole is = begun done rest is
-  copy_ends (Err fault.Store) done rest (Unsure x took) whole is = (rest, is)
+      ∙ append-nil done) (list refl)
+  copy_ends (Err fault.Snap) done rest last whole list is = begun done (tried last ++ rest) is
+  copy_ends (Err fault.Memory) done rest last whole list is = begun done (tried last ++ rest) is
+  copy_ends (Err fault.Store) done rest Sure whole list is = begun done rest is
+  copy_ends (Err fault.Store) done rest (Unsure x took) whole list is = (rest, is)
 
 -- the running names stay after a place
 pub place_runs : {T : Type 0} (running : Running) (f n : List ℕ) (d : Bool) (key : FileKey)
@@ -71,23 +72,23 @@ place_runs running f n d key bytes (Err fault.Memory) last = refl
 place_runs running f n d key bytes (Err fault.Store) Sure = refl
 place_runs running f n d key bytes (Err fault.Store) (Unsure x took) = refl
 
-runs_there : (f n : List ℕ) (running : List (List ℕ)) → Contains running n
+pub runs_there : (f n : List ℕ) (running : List (List ℕ)) → Contains running n
     → Contains {X = List ℕ × List ℕ} (map (λ m. (f, m)) running) (f, n)
 runs_there f n running (i, less, is) =
     let pair : List ℕ → List ℕ × List ℕ = λ m. (f, m) in contains_map pair running i n less (sym is)
 
 module _ (before f n : List ℕ) (d : Bool) (key : FileKey) (node : IsFqdn f) (name : IsBackupName n)
     (valid : IsKey key) where
-  -- a place may make the put of its file
-  put_within : (bytes : List ℕ) (x : Effect) → IsFilePut before f n key bytes x
-      → MayChange before f (Place n d key bytes) x
-  put_within bytes (Stores path stored second) (inl is, same) =
+  -- any call may make the put of a file
+  pub put_within : (call : Call) (bytes : List ℕ) (x : Effect) → IsFilePut before f n key bytes x
+      → MayChange before f call x
+  put_within call bytes (Stores path stored second) (inl is, same) =
       subst (MayStore f)
       (sym (ap (kind_of before) is ∙ path_has before (Shared f key) tt (node, valid))) refl
-  put_within bytes (Stores path stored second) (inr is, same) =
+  put_within call bytes (Stores path stored second) (inr is, same) =
       subst (MayStore f)
       (sym (ap (kind_of before) is ∙ path_has before (Own f n key) tt (node, name, valid))) refl
-  put_within bytes (Removes path) never = absurd never
+  put_within call bytes (Removes path) never = absurd never
 
   module _ (running : List (List ℕ)) (runs : Contains running n) where
     abbrev here : ShelfState
@@ -108,7 +109,8 @@ module _ (before f n : List ℕ) (d : Bool) (key : FileKey) (node : IsFqdn f) (n
           node = node;
           asked = (name, runs_there f n running runs, valid);
           ends = copy_ends before c (running_of here) f (Place n d key bytes) (λ left. tt) said
-              done rest last whole (second, sym split ∙ is);
+              done rest last whole (λ fine. (second, sym split ∙ is))
+              (inl (second, sym split ∙ is));
         })
 
     place_acts : {T : Type 0} (held : Option Snapshot) (s0 s1 : State) (p0 p1 : History)
@@ -121,7 +123,8 @@ module _ (before f n : List ℕ) (d : Bool) (key : FileKey) (node : IsFqdn f) (n
         record {
           xs = placed.xs;
           within = all_with (IsFilePut before f n key placed.bytes)
-              (MayChange before f (Place n d key placed.bytes)) (put_within placed.bytes)
+              (MayChange before f (Place n d key placed.bytes))
+              (put_within (Place n d key placed.bytes) placed.bytes)
               placed.xs placed.puts;
           makes = record {
             done = m.done;

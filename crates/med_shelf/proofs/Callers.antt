@@ -1,5 +1,5 @@
 -- What a caller of a shelf knows behind a claim and a place.
-use Rattle.std.proofs.Common.{◌≡◌, ◌∙◌, ◌<◌, zero, suc, ℕ, Bool, false, List, [], ◌∷◌, map, Option, Result, Ok, Err, IsOk, refl, sym, ap, subst, arith}
+use Rattle.std.proofs.Common.{◌≡◌, ◌∙◌, zero, suc, ℕ, Bool, List, [], ◌∷◌, map, Option, Result, Ok, Err, refl, sym, ap, subst, arith}
 use Rattle.std.specs.List.{Contains}
 use Rattle.med_base.specs.declared.key.FileKey.{FileKey}
 use Rattle.med_base.specs.Content.{Content}
@@ -11,7 +11,7 @@ use Rattle.med_index.specs.Modes.{is_differential}
 use Rattle.med_outside.specs.declared.copy_fault.CopyFault.{CopyFault}
 use Rattle.med_outside.specs.declared.mode.Mode.{Mode}
 use Rattle.med_outside.specs.declared.trace.Trace.{Trace}
-use Rattle.med_outside.specs.Makes.{Last, Sure, Unsure, is_unsure, took}
+use Rattle.med_outside.specs.Makes.{Last, Sure, Unsure, is_unsure}
 use Rattle.med_outside.specs.Snapshot.{Snapshot}
 use Rattle.med_outside.specs.State.{State, History, IsReady}
 use Rattle.med_outside.proofs.Passing.{ready_on}

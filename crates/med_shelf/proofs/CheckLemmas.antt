@@ -1,5 +1,5 @@
 -- A look at one record before a finish.
-use Rattle.std.proofs.Common.{◌≡◌, ◌∙◌, ℕ, Bool, true, false, List, [], Option, Some, None, option_map, Result, Ok, Err, IsOk, IfOk, IfSome, refl, sym, ap, subst, if◌then◌else◌}
+use Rattle.std.proofs.Common.{◌≡◌, ◌∙◌, ℕ, Bool, true, false, List, [], Option, Some, None, option_map, Result, Ok, Err, IfOk, IfSome, refl, ap, subst, if◌then◌else◌}
 use Rattle.std.specs.FinMap.{get}
 use Rattle.std.specs.List.{AllByRecursion}
 use Rattle.med_base.specs.declared.fingerprint.Fingerprint.{Fingerprint}
@@ -15,7 +15,7 @@ use Rattle.med_outside.specs.declared.storage.Stat.{Stat}
 use Rattle.med_outside.specs.declared.trace.Trace.{Trace}
 use Rattle.med_outside.specs.Makes.{IsError}
 use Rattle.med_outside.specs.Snapshot.{Snapshot, HasKey}
-use Rattle.med_outside.specs.State.{State, ChangesWithin, OnlyReads, History}
+use Rattle.med_outside.specs.State.{State, OnlyReads, History}
 use Rattle.med_outside.specs.Storage.{AnswersStat}
 use Rattle.med_outside.proofs.Making.{in_turn, nothing_yet}
 use Rattle.med_outside.proofs.Passing.{after_all-nothing}

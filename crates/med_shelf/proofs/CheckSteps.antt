@@ -19,8 +19,7 @@ use Rattle.med_core.specs.Place.{placed_record, placing}
 use Rattle.med_manifest.proofs.RecordLemmas.{same_key}
 use Rattle.med_outside.specs.Sent.{IsWholeFile}
 use Rattle.med_outside.specs.Snapshot.{HasKey, Snapshot}
-use Rattle.med_shelf.specs.Checks.{changes_of_check, checked_record, is_kept}
-use Rattle.med_shelf.specs.Finishes.{AreFresh}
+use Rattle.med_shelf.specs.Checks.{AreFresh, changes_of_check, checked_record, is_kept}
 use Rattle.med_shelf.specs.Records.{files_of, keys_of}
 use Rattle.med_shelf.proofs.CheckedLists.{IsSameOf, checked_on, checked_same, rechecked_on, rechecked_same}
 

@@ -5,7 +5,7 @@ use Rattle.std.specs.FinMap.{get}
 use Rattle.std.specs.List.{AllByRecursion}
 use Rattle.med_base.specs.declared.key.FileKey.{FileKey}
 use Rattle.med_base.specs.Content.{Content, Object}
-use Rattle.med_base.specs.Effects.{Effect, applied}
+use Rattle.med_base.specs.Effects.{applied}
 use Rattle.med_base.specs.Fingerprint.{fingerprint_of}
 use Rattle.med_base.specs.Layout.{shared_path}
 use Rattle.med_core.specs.declared.records.Record.{Record}

@@ -20,8 +20,7 @@ use Rattle.med_outside.specs.Snapshot.{HasKey, Snapshot}
 use Rattle.med_outside.specs.State.{State, History}
 use Rattle.med_outside.proofs.Making.{cut_short, in_turn, nothing_yet, told_as}
 use Rattle.med_outside.proofs.Passing.{moves_at_rest}
-use Rattle.med_shelf.specs.Checks.{AreChecked, ChecksRecord, ChecksRecords, IsChecked, PutsOne, changes_of_check, checked_record, is_kept}
-use Rattle.med_shelf.specs.Finishes.{AreFresh}
+use Rattle.med_shelf.specs.Checks.{AreChecked, AreFresh, ChecksRecord, ChecksRecords, IsChecked, PutsOne, changes_of_check, checked_record, is_kept}
 use Rattle.med_shelf.specs.Places.{IsFilePut}
 use Rattle.med_shelf.specs.Records.{files_of, keys_of}
 use Rattle.med_shelf.proofs.PlaceLemmas.{puts_placing}
@@ -42,7 +41,8 @@ pub record SoFar (before f n : List ℕ) (d : Bool) (all front kept : List Recor
     pub makes : Makes fine fault xs s0 s1 p0 p1 t0 t1
     pub answer : fine → AreChecked before f n d front fresh s0.content kept
 
-made_content : (fault : Type 0) (xs : List Effect) (s0 s1 : State) (p0 p1 : History) (t0 t1 : Trace)
+-- the content behind a list all of which was made
+pub made_content : (fault : Type 0) (xs : List Effect) (s0 s1 : State) (p0 p1 : History) (t0 t1 : Trace)
     → Makes (Unit {0}) fault xs s0 s1 p0 p1 t0 t1 → s1.content ≡ after_all xs s0.content
 made_content fault xs s0 s1 p0 p1 t0 t1 m =
     let ended = m.whole tt in

@@ -85,11 +85,12 @@ module _ (T : Type 0) (shelf : ShelfState) (n : List ℕ) (d : Bool) (schema rin
   within : (seconds : ℕ → ℕ) → seconds 0 < 2 ^ 64
       → AreWithin shelf.layout shelf.node call (list seconds)
   within seconds fits =
-      lists_within shelf.layout empty [] shelf.node call (list seconds) node name (
+      lists_within shelf.layout empty [] shelf.node call (list seconds) node name
+      (inl (
         λ there. absurd (omega (arith, there.1)),
         empty_free (backup_folder shelf.layout shelf.node n),
         (seconds, fits, refl),
-      )
+      ))
 
   -- the claim ended so over the content
   abbrev Ends : Ending → List Effect → Content → Type 0
@@ -162,9 +163,9 @@ module _ (T : Type 0) (shelf : ShelfState) (n : List ℕ) (d : Bool) (schema rin
         → (done rest : List Effect) → list seconds ≡ done ++ rest → rest ≢ [] → (by : Ending)
         → (by ≡ Halted section.Store) ⊎ (by ≡ Halted section.Memory) → Ends by done c
     halted c idle free done rest split left by (inl is) =
-        rw is (inr (rest, left, listed c idle free (done ++ rest) (sym split)))
+        rw is (inr (rest, left, inl (listed c idle free (done ++ rest) (sym split))))
     halted c idle free done rest split left by (inr is) =
-        rw is (inr (rest, left, listed c idle free (done ++ rest) (sym split)))
+        rw is (inr (rest, left, inl (listed c idle free (done ++ rest) (sym split))))
 
     cut_ends : (told : Option Content) → (Runs shelf n → ⊥)
         → IfSome told (λ c. IsFree shelf.layout c shelf.node n) → (e : ClaimError)
@@ -180,7 +181,7 @@ module _ (T : Type 0) (shelf : ShelfState) (n : List ℕ) (d : Bool) (schema rin
     cut_ends (Some c) idle free error.Store why done Sure rest split cause left =
         halted c idle free done rest split (left refl) (Halted section.Store) (inl refl)
     cut_ends (Some c) idle free error.Store why done (Unsure x took) rest split cause left =
-        (rest, listed c idle free (done ++ x ∷ rest) (sym split))
+        (rest, inl (listed c idle free (done ++ x ∷ rest) (sym split)))
     cut_ends (Some c) idle free error.Memory why done Sure rest split cause left =
         halted c idle free done rest split (left refl) (Halted section.Memory) (inr refl)
     cut_ends (Some c) idle free error.Memory why done (Unsure x took) rest split cause left =

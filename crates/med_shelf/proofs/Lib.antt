@@ -5,8 +5,12 @@ pub mod CheckSteps
 pub mod CheckedLists
 pub mod CheckedSoFar
 pub mod ClaimSteps
+pub mod EndLemmas
+pub mod FinishSections
+pub mod FinishSteps
 pub mod LookSteps
 pub mod Names
 pub mod PlaceLemmas
 pub mod PutSteps
 pub mod SendLemmas
+pub mod WriteLemmas

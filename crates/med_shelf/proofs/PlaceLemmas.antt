@@ -5,7 +5,7 @@ use Rattle.std.specs.FinMap.{get}
 use Rattle.med_base.specs.declared.fingerprint.Fingerprint.{Fingerprint}
 use Rattle.med_base.specs.declared.key.FileKey.{FileKey}
 use Rattle.med_base.specs.Content.{Content, Object}
-use Rattle.med_base.specs.Effects.{Effect, Stores}
+use Rattle.med_base.specs.Effects.{Stores}
 use Rattle.med_base.specs.Fingerprint.{fingerprint_of}
 use Rattle.med_base.specs.Layout.{own_path, shared_path}
 use Rattle.med_core.specs.declared.records.How.{How}
@@ -16,7 +16,7 @@ use Rattle.med_manifest.specs.Manifest.{IsPathOf}
 use Rattle.med_outside.specs.declared.copy_fault.CopyFault.{CopyFault}
 use Rattle.med_outside.specs.declared.copy_fault.CopyFault.TheVariants as fault
 use Rattle.med_outside.specs.declared.trace.Trace.{Trace}
-use Rattle.med_outside.specs.Makes.{Makes, IsError}
+use Rattle.med_outside.specs.Makes.{IsError}
 use Rattle.med_outside.specs.Snapshot.{Snapshot, HasKey}
 use Rattle.med_outside.specs.State.{State, ChangesWithin, History}
 use Rattle.med_outside.proofs.Making.{nothing_yet, told_as}

@@ -1,5 +1,5 @@
 -- A file of a snapshot that is sent: what is uploaded, put, and told of it.
-use Rattle.std.proofs.Common.{◌≡◌, ◌∙◌, ◌<◌, ◌^◌, ℕ, Bool, true, false, List, [], ◌∷◌, ◌++◌, Option, Some, None, option_map, Result, Ok, Err, IsOk, IfOk, IfSome, refl, sym, ap, subst}
+use Rattle.std.proofs.Common.{◌≡◌, ◌∙◌, ℕ, true, false, List, [], ◌∷◌, ◌++◌, Option, Some, None, option_map, Result, Ok, Err, IsOk, IfSome, refl, sym, ap, subst}
 use Rattle.std.specs.Prelude.{is_some, IsTrue}
 use Rattle.std.specs.FinMap.{get}
 use Rattle.med_base.specs.declared.fingerprint.Fingerprint.{Fingerprint}
@@ -21,7 +21,7 @@ use Rattle.med_outside.specs.Sent.{IsUploaded, IsWholeFile, fault_of}
 use Rattle.med_outside.specs.Snapshot.{Snapshot, HasKey}
 use Rattle.med_outside.specs.State.{State, Terms, ChangesWithin, OnlyReads, History}
 use Rattle.med_outside.specs.Storage.{AnswersStat, stat_of}
-use Rattle.med_outside.proofs.Making.{in_turn, nothing_yet, told_as}
+use Rattle.med_outside.proofs.Making.{in_turn, nothing_yet}
 use Rattle.med_outside.proofs.Sending.{given_up, upload_on}
 use Rattle.med_shelf.specs.declared.sending.Placed.{Placed}
 use Rattle.med_shelf.specs.Places.{SendsBeside, SendsFile, how_unless, path_beside, stands_as}

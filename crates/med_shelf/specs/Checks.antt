@@ -1,5 +1,5 @@
 -- What a look at the records of a backup before its finish makes, and the records afterwards.
-use Rattle.std.specs.Prelude.{◌≡◌, ℕ, Bool, List, [], Contains, Option, IfOk, IfSome, Result, IsOk, if◌then◌else◌}
+use Rattle.std.specs.Prelude.{◌≡◌, ℕ, Bool, List, [], Contains, Option, Some, IfOk, IfSome, Result, IsOk, if◌then◌else◌}
 use Rattle.std.specs.FinMap.{get}
 use Rattle.std.specs.List.{AllByRecursion}
 use Rattle.med_base.specs.Content.{Content}
@@ -15,9 +15,32 @@ use Rattle.med_outside.specs.Makes.{Makes, IsError}
 use Rattle.med_outside.specs.Sent.{IsWholeFile}
 use Rattle.med_outside.specs.Snapshot.{Snapshot}
 use Rattle.med_outside.specs.State.{State, History}
-use Rattle.med_shelf.specs.Finishes.{AreFresh}
 use Rattle.med_shelf.specs.Places.{IsFilePut}
 use Rattle.med_shelf.specs.Records.{files_of, keys_of}
+
+-- these are the bytes of the files of the records in the snapshot, where that is told
+abbrev pub AreFresh : Option Snapshot → List Record → Fresh → Type 0
+AreFresh held rs fresh =
+    IfSome held
+    (λ s. AllByRecursion
+    (λ (r : Record). get s.files r.file.key ≡ Some (fresh.bytes r.file.key)) rs)
+
+-- the change puts the file of one of the records, with all its bytes
+abbrev pub PutsOne : (before f n : List ℕ) → Option Snapshot → List Record → Effect → Type 0
+PutsOne before f n held rs x =
+    (r : Record) × (bytes : List ℕ) × Contains rs r × IsWholeFile held r.file.key bytes
+    × IsFilePut before f n r.file.key bytes x
+
+-- the records after a look at all: the same keys, each with a path of its file, and what is told
+pub record AreChecked (before f n : List ℕ) (differential : Bool) (rs : List Record) (fresh : Fresh)
+    (told : Option Content) (now : List Record) : Type 0
+  where
+    pub keys_are : keys_of now ≡ keys_of rs
+    pub paths_are : AllByRecursion
+        (λ (r : Record). IsPathOf before f n r.file.key r.file.path) now
+    pub records_are : IfSome told (λ c. now ≡ rechecked before f n differential fresh c rs)
+
+-- ---- for this crate's own clauses
 
 -- the object under the path of the record has its fingerprint
 abbrev pub is_kept : Content → Record → Bool
@@ -34,8 +57,6 @@ abbrev pub checked_record : (before f n : List ℕ) (differential : Bool) → Re
     → (bytes : List ℕ) → Content → Record
 checked_record before f n differential r bytes c =
     if is_kept c r then r else placed_record before f n differential r.file.key bytes c
-
--- ---- for this crate's own clauses
 
 -- the record after a look at one, of the same key, with a path of its file
 pub record IsChecked (before f n : List ℕ) (differential : Bool) (r : Record) (bytes : List ℕ)
@@ -60,21 +81,6 @@ pub record ChecksRecord (before f n : List ℕ) (differential : Bool) (r : Recor
     pub makes : Makes (IsOk result) (IsError result fault.Store) xs old new stood_before
         stood_after trace_before trace_after
     pub answer : IfOk result (IsChecked before f n differential r bytes old.content)
-
--- the change puts the file of one of the records, with all its bytes
-abbrev pub PutsOne : (before f n : List ℕ) → Option Snapshot → List Record → Effect → Type 0
-PutsOne before f n held rs x =
-    (r : Record) × (bytes : List ℕ) × Contains rs r × IsWholeFile held r.file.key bytes
-    × IsFilePut before f n r.file.key bytes x
-
--- the records after a look at all: the same keys, each with a path of its file, and what is told
-pub record AreChecked (before f n : List ℕ) (differential : Bool) (rs : List Record) (fresh : Fresh)
-    (told : Option Content) (now : List Record) : Type 0
-  where
-    pub keys_are : keys_of now ≡ keys_of rs
-    pub paths_are : AllByRecursion
-        (λ (r : Record). IsPathOf before f n r.file.key r.file.path) now
-    pub records_are : IfSome told (λ c. now ≡ rechecked before f n differential fresh c rs)
 
 -- the records were looked at in order, and the files of those that weren't stored as recorded were
 -- placed again

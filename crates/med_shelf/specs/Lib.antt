@@ -2,6 +2,7 @@ pub mod Acts
 pub mod Checks
 pub mod Claims
 pub mod Endings
+pub mod Ends
 pub mod Finishes
 pub mod Places
 pub mod Records

@@ -61,6 +61,12 @@ RecordsFile bytes told key claim claim_now (Ok how) =
     × IsRecordOf claim.layout claim.node claim.name (is_differential claim.mode) key bytes told r
 RecordsFile bytes told key claim claim_now (Err fault) = claim_now ≡ claim
 
+-- the change puts the file of the key, under its shared or its own path
+abbrev pub IsFilePut : (before f n : List ℕ) → FileKey → List ℕ → Effect → Type 0
+IsFilePut before f n key bytes (Stores path stored second) =
+    IsPathOf before f n key path × (stored ≡ bytes)
+IsFilePut before f n key bytes (Removes path) = ⊥
+
 -- the file of the key was placed with all its bytes, and recorded
 pub record Places (shelf shelf_now : ShelfState) (claim claim_now : ClaimState) (key : FileKey)
     (held : Option Snapshot) (result : Result How CopyFault) (old new : State)
@@ -74,12 +80,6 @@ pub record Places (shelf shelf_now : ShelfState) (claim claim_now : ClaimState) 
     pub records : RecordsFile bytes old.content key claim claim_now result
 
 -- ---- for this crate's own clauses
-
--- the change puts the file of the key, under its shared or its own path
-abbrev pub IsFilePut : (before f n : List ℕ) → FileKey → List ℕ → Effect → Type 0
-IsFilePut before f n key bytes (Stores path stored second) =
-    IsPathOf before f n key path × (stored ≡ bytes)
-IsFilePut before f n key bytes (Removes path) = ⊥
 
 -- the file of the key was placed with all its bytes: over every storage there is at most one put, of
 -- the file, and over what is told the changes are those of a place

@@ -2,8 +2,9 @@
 use Rattle.std.specs.Prelude.{ℕ, List, map}
 use Rattle.std.specs.List.{AllByRecursion, IsDistinct}
 use Rattle.std.specs.List.Sorted.{IsPermutation}
+use Rattle.std.specs.declared.cmp.Ordering.{Ordering}
 use Rattle.med_base.specs.declared.key.FileKey.{FileKey}
-use Rattle.med_base.specs.Key.{key_eq, AreRising, IsKey}
+use Rattle.med_base.specs.Key.{key_cmp, key_eq, AreRising, IsKey}
 use Rattle.med_core.specs.declared.records.Record.{Record}
 use Rattle.med_manifest.specs.declared.manifest.FileRecord.{FileRecord}
 use Rattle.med_manifest.specs.Manifest.{IsPathOf}
@@ -18,6 +19,10 @@ pub record AreRecordsOf (before f n : List ℕ) (rs : List Record) : Type 0 wher
   pub once : IsDistinct key_eq (keys_of rs)
   pub each : AllByRecursion
       (λ (r : Record). IsKey r.file.key × IsPathOf before f n r.file.key r.file.path) rs
+
+-- records in order of their keys
+abbrev pub record_cmp : Record → Record → Ordering
+record_cmp a b = key_cmp a.file.key b.file.key
 
 -- the files of the records, as a manifest has them
 abbrev pub files_of : List Record → List FileRecord

@@ -20,8 +20,8 @@ use med_outside::{Denied, Entry, Mode, Storage, Trace};
 use med_ring::Ring;
 use std::alloc::Global;
 
-// The rules that the two names keep, which their references don't tell.
-fn names_keep_rules(node: &Fqdn, name: &BackupName)
+/// The rules that the two names keep, which their references don't tell.
+pub(crate) fn names_keep_rules(node: &Fqdn, name: &BackupName)
     ensures node { IsFqdn node.now }
     ensures name { IsBackupName name.now }
 {

@@ -1,4 +1,4 @@
-use Rattle.std.proofs.Common.{◌∙◌, sym, ap}
+use Rattle.std.proofs.Common.{◌∙◌, ap}
 use Rattle.med_index.specs.Modes.{is_differential}
 use Rattle.med_shelf.specs.Places.{stands_as}
 use Rattle.med_shelf.proofs.CheckLemmas.{again_checked, none_checked, stays_checked}
