@@ -1,0 +1,4 @@
+pub mod Backups
+pub mod Placing
+pub mod Sections
+pub mod Sources
