@@ -118,8 +118,8 @@ fn is_right<S: Storage>(alloc: Global, store: &mut S, row: &str, ring: &str) -> 
     }
 }
 
-// The first row that is wrong.
-fn first_wrong_row<'a, S: Storage>(
+/// The first row that is wrong.
+pub(crate) fn first_wrong_row<'a, S: Storage>(
     alloc: Global,
     store: &mut S,
     table: &'a str,
@@ -171,7 +171,8 @@ fn a_full_backup_has_files_of_its_own_and_takes_its_name(rt: HostRuntime) {
     assert_eq!(rt; first_wrong_of(rt.alloc(), FULL, RING), None);
 }
 
-const SHARED: &str = "\
+/// Two differential backups and a full one, and what they leave, but for seconds.
+pub(crate) const SHARED: &str = "\
 backup d1 differential a=abc,b=x => d1 of n1: 2 files, 4 bytes, 0 2 0
 backup d2 differential a=abc,b=yy,c=z => d2 of n1: 3 files, 6 bytes, 1 1 1
 piece n1/data/ks/t-1/a 0 => abc
