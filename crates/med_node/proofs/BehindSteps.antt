@@ -1,18 +1,19 @@
 -- The calls of a backup behind its claim, and the claim before them.
-use Rattle.std.proofs.Common.{◌≡◌, ◌∙◌, ◌++◌, ℕ, Bool, true, false, List, [], ◌∷◌, append_assoc, Option, Some, None, Result, Ok, Err, IsOk, IfSome, inl, inr, refl, sym, subst}
+use Rattle.std.proofs.Common.{◌≡◌, ◌∙◌, ◌++◌, ℕ, Bool, true, false, List, [], ◌∷◌, append_assoc, Option, Some, None, Result, Ok, Err, IsOk, IfSome, inl, inr, refl, sym, ap, subst}
 use Rattle.std.specs.List.{AllByRecursion, Contains}
-use Rattle.std.proofs.lemmas.List.Sorted.{IsPermutation-map}
 use Rattle.med_base.specs.declared.key.FileKey.{FileKey}
 use Rattle.med_base.specs.Content.{Content}
+use Rattle.med_base.specs.Effects.{after_all, applied}
 use Rattle.med_base.specs.Key.{AreRising}
 use Rattle.med_base.specs.Kinds.{IsBackupName, IsFqdn}
 use Rattle.med_core.specs.declared.records.Record.{Record}
 use Rattle.med_core.specs.Finish.{Fresh, rechecked}
-use Rattle.med_core.specs.Run.{running_after}
+use Rattle.med_core.specs.Run.{IsRun, running_after}
 use Rattle.med_core.specs.Section.{Abandon, Done, Event, Finish}
 use Rattle.med_index.specs.Modes.{is_differential}
 use Rattle.med_outside.specs.declared.copy_fault.CopyFault.{CopyFault}
 use Rattle.med_outside.specs.declared.copy_fault.CopyFault.TheVariants as fault
+use Rattle.med_outside.specs.declared.mode.Mode.{Mode}
 use Rattle.med_outside.specs.declared.trace.Trace.{Trace}
 use Rattle.med_outside.specs.Makes.{IsError}
 use Rattle.med_outside.specs.Sent.{IsPrintOf, IsWholeFile}
@@ -22,17 +23,19 @@ use Rattle.med_shelf.specs.declared.finished.Finished.{Finished}
 use Rattle.med_shelf.specs.Acts.{event_of}
 use Rattle.med_shelf.specs.Endings.{copy_ending}
 use Rattle.med_shelf.specs.Finishes.{Finishes, HasManifestOf}
-use Rattle.med_shelf.specs.Records.{files_of, keys_of}
+use Rattle.med_shelf.specs.Records.{AreSorted, files_of, keys_of}
 use Rattle.med_shelf.specs.Shelf.{ClaimState, ShelfState, running_of}
 use Rattle.med_shelf.proofs.Acting.{runs_there}
 use Rattle.med_shelf.proofs.CheckSteps.{whole_in}
 use Rattle.med_shelf.proofs.FinishSteps.{all_moved}
-use Rattle.med_node.specs.Backups.{ArePrints, places_of}
+use Rattle.med_node.specs.Backups.{ArePrints, places_of, records_over}
 use Rattle.med_node.specs.Placing.{EndsBehind, MakesBehind, PlacedAll, PlacedSome}
+use Rattle.med_node.specs.Sections.{all_effects}
 use Rattle.med_node.proofs.KeyLemmas.{same_moved}
 use Rattle.med_node.proofs.PlaceSteps.{sections_as}
 use Rattle.med_node.proofs.PrintLemmas.{prints_behind}
-use Rattle.med_node.proofs.RowLemmas.{given_up, one_more, told_before}
+use Rattle.med_node.proofs.RecordSteps.{records_ended}
+use Rattle.med_node.proofs.RowLemmas.{content_on, given_up, one_more, told_before}
 use Rattle.med_node.proofs.SectionLemmas.{copy_effects, done_on}
 
 -- ---- keys of records
@@ -121,16 +124,60 @@ module _ (a b now : ShelfState) (claim k : ClaimState) (keys : List FileKey)
         ends = go result fin;
       }
     where
-      call_so : (looked : List Record) → Finish k.name (is_differential k.mode) (files_of looked)
-          ≡ Finish claim.name (is_differential claim.mode) (files_of looked)
-      call_so looked =
-          λ i. Finish (so.name_is i) (is_differential (so.mode_is i)) (files_of looked)
-
       layout_so : k.layout ≡ a.layout
       layout_so = so.of.layout_is ∙ so.sections.layout_is
 
       node_so : k.node ≡ a.node
       node_so = so.of.node_is ∙ so.sections.node_is
+
+      d : Bool
+      d = is_differential claim.mode
+
+      sorted_same : (sorted : List Record) → AreSorted k.records sorted → k.records ≡ sorted
+      sorted_same sorted is =
+          same_moved (λ (r : Record). r.file.key) k.records sorted is.same
+          (subst AreRising (sym so.keys_are) rising) is.rising
+
+      told_looked : (sorted rs : List Record) → k.records ≡ sorted → (o : Option Content)
+          → IfSome o (λ c. k.records ≡ records_over a.layout a.node claim.name d c so.files)
+          → IfSome o (λ c. rs ≡ records_over a.layout a.node claim.name d c so.files)
+          → IfSome o (λ c. files_of sorted ≡ files_of rs)
+      told_looked sorted rs same None had recorded = tt
+      told_looked sorted rs same (Some c) had recorded =
+          ap files_of (sym same ∙ had ∙ sym recorded)
+
+      records_so : (fresh : Fresh) (sorted rs : List Record) → k.records ≡ sorted
+          → IfSome s1.content
+          (λ c. rs ≡ rechecked k.layout k.node k.name (is_differential k.mode) fresh c sorted)
+          → IfSome s0.content
+          (λ c. rs ≡ records_over a.layout a.node claim.name d c so.files)
+      records_so fresh sorted rs same looked =
+          over s0.content s1.content (content_on a b so.events s0 s1 p0 p1 t0 t1 so.sections)
+          so.sections.run so.records_are looked
+        where
+          over : (o o' : Option Content) → o' ≡ after_all (all_effects so.events) o
+              → IfSome o (λ c. IsRun a.layout c (running_of a) so.events)
+              → IfSome o (λ c. k.records ≡ records_over a.layout a.node claim.name d c so.files)
+              → IfSome o' (λ c. rs ≡ rechecked k.layout k.node k.name (is_differential k.mode)
+              fresh c sorted)
+              → IfSome o (λ c. rs ≡ records_over a.layout a.node claim.name d c so.files)
+          over None o' told run had look = tt
+          over (Some c) None told run had look =
+              let bad : ◌≡◌ {A = Option Content} None (Some (applied (all_effects so.events) c)) =
+              told in absurd (cc bad)
+          over (Some c) (Some c') told run had look =
+              records_ended a.layout a.node claim.name d so.files so.events c (running_of a) run
+              so.done (subst AreRising (sym so.all) rising) c' (cc told) fresh sorted rs
+              (sym same ∙ had)
+              (subst
+              (λ (y : List ℕ × List ℕ × List ℕ × Mode). rs ≡ rechecked y.0 y.1 y.2
+              (is_differential y.3) fresh c' sorted)
+              (λ i. (layout_so i, node_so i, so.name_is i, so.mode_is i)) look)
+
+      call_so : (looked : List Record) → Finish k.name (is_differential k.mode) (files_of looked)
+          ≡ Finish claim.name (is_differential claim.mode) (files_of looked)
+      call_so looked =
+          λ i. Finish (so.name_is i) (is_differential (so.mode_is i)) (files_of looked)
 
       go : (result : Result Finished CopyFault)
           → (fin : Finishes b now k held result s1 s2 p1 p2 t1 t2)
@@ -154,6 +201,9 @@ module _ (a b now : ShelfState) (claim k : ClaimState) (keys : List FileKey)
       })
       go (Ok finished) fin =
           let (name_is, ended) = fin.ends in
+          let same = sorted_same fin.sorted fin.sorted_is in
+          let recorded = records_so fin.fresh fin.sorted finished.records.items same
+          ended.records_are.records_are in
           let P : Record → Type 0 = λ (q : Record). IsPrintOf held q.file.key q.file.fingerprint in
           record {
             files = so.files;
@@ -168,12 +218,7 @@ module _ (a b now : ShelfState) (claim k : ClaimState) (keys : List FileKey)
                 fin.acts.makes.done ∷ []) so.done (refl, call_so fin.sorted, refl, tt);
             name_is = name_is ∙ so.name_is;
             keys_are =
-                ended.records_are.keys_are
-                ∙ sym (same_moved (keys_of k.records) (keys_of fin.sorted)
-                (IsPermutation-map (λ (r : Record). r.file.key) k.records fin.sorted
-                fin.sorted_is.same) (subst AreRising (sym so.keys_are) rising)
-                fin.sorted_is.rising)
-                ∙ so.keys_are;
+                ended.records_are.keys_are ∙ sym (ap keys_of same) ∙ so.keys_are;
             prints_are = told_before a b so.events s0 s1 p0 p1 t0 t1 so.sections
                 (ArePrints held finished.records.items)
                 (told_prints k.layout k.node k.name (is_differential k.mode) held fin.fresh
@@ -181,6 +226,9 @@ module _ (a b now : ShelfState) (claim k : ClaimState) (keys : List FileKey)
                 (all_moved P k.records fin.sorted fin.sorted_is.same so.prints_are)
                 (whole_in held fin.sorted fin.fresh fin.fresh_is) s1.content
                 ended.records_are.records_are);
+            records_are = recorded;
+            looked_are = told_looked fin.sorted finished.records.items same s0.content
+                so.records_are recorded;
             manifest_is =
                 subst (λ (n : List ℕ). HasManifestOf a.layout a.node n s2.content finished)
                 so.name_is

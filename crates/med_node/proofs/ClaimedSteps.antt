@@ -3,7 +3,8 @@ use Rattle.std.proofs.Common.{◌≡◌, ℕ, Bool, true, false, List, [], ◌�
 use Rattle.std.specs.List.{AllByRecursion}
 use Rattle.med_base.specs.declared.key.FileKey.{FileKey}
 use Rattle.med_base.specs.Content.{Content}
-use Rattle.med_core.specs.Section.{Claim, Done, Event}
+use Rattle.med_base.specs.Key.{AreRising}
+use Rattle.med_core.specs.Section.{Claim, Done, Event, Running}
 use Rattle.med_index.specs.Modes.{is_differential}
 use Rattle.med_outside.specs.declared.copy_fault.CopyFault.{CopyFault}
 use Rattle.med_outside.specs.declared.copy_fault.CopyFault.TheVariants as fault
@@ -20,7 +21,8 @@ use Rattle.med_shelf.specs.declared.finished.Finished.{Finished}
 use Rattle.med_shelf.specs.Acts.{ActsAsClaim, event_of}
 use Rattle.med_shelf.specs.Claims.{AnswersClaim, claimed}
 use Rattle.med_shelf.specs.Endings.{claim_ending}
-use Rattle.med_shelf.specs.Shelf.{ClaimState, ShelfState}
+use Rattle.med_shelf.specs.Records.{files_of}
+use Rattle.med_shelf.specs.Shelf.{ClaimState, ShelfState, running_of}
 use Rattle.med_node.specs.declared.backup.BackupError.{BackupError}
 use Rattle.med_node.specs.declared.backup.BackupError.TheVariants as error
 use Rattle.med_node.specs.declared.report.BackupReport.{BackupReport}
@@ -29,28 +31,34 @@ use Rattle.med_node.specs.Placing.{EndsBehind, MakesBehind}
 use Rattle.med_node.specs.Sections.{MakesSections}
 use Rattle.med_node.specs.Sources.{BlamesSources, error_of_claim}
 use Rattle.med_node.proofs.PlaceSteps.{sections_as}
-use Rattle.med_node.proofs.RowLemmas.{in_row, none_made, one_more, told_before}
+use Rattle.med_node.proofs.MadeFacts.{told_backup}
+use Rattle.med_node.proofs.RowLemmas.{content_on, in_row, none_made, one_more, told_before}
 use Rattle.med_node.proofs.SectionLemmas.{claim_effects}
 
 -- ---- nothing was claimed
 
 -- what can't be read is no backup
-pub sources_refused : (before f n : List ℕ) (d : Bool) (held : Option Snapshot)
+pub sources_refused : (before f n : List ℕ) (running : Running) (d : Bool) (held : Option Snapshot)
     (told told_now : Option Content) (first later : ℕ) (e : BackupError)
     → BlamesSources f held first later e
-    → AnswersBackup before f n d held told told_now [] (Err e)
-sources_refused before f n d held told told_now first later error.NoSnapshot is = (refl, is)
-sources_refused before f n d held told told_now first later (error.BadFileName at) is = (refl, is)
-sources_refused before f n d held told told_now first later (error.BadRing why) is = (refl, is)
-sources_refused before f n d held told told_now first later (error.NotInRing host) (is, none) =
-    (refl, is, none)
-sources_refused before f n d held told told_now first later (error.Running name) never = absurd never
-sources_refused before f n d held told told_now first later (error.Taken path) never = absurd never
-sources_refused before f n d held told told_now first later (error.Fault why) is = inl refl
+    → AnswersBackup before f n running d held told told_now [] (Err e)
+sources_refused before f n running d held told told_now first later error.NoSnapshot is = (refl, is)
+sources_refused before f n running d held told told_now first later (error.BadFileName at) is = (refl, is)
+sources_refused before f n running d held told told_now first later (error.BadRing why) is = (refl, is)
+sources_refused before f n running d held told told_now first later (error.NotInRing host) is =
+    (refl, is.0, is.1)
+sources_refused before f n running d held told told_now first later (error.Running name) never = absurd never
+sources_refused before f n running d held told told_now first later (error.Taken path) never = absurd never
+sources_refused before f n running d held told told_now first later (error.Fault fault.Snap) is =
+    inl (refl, λ e. cc e)
+sources_refused before f n running d held told told_now first later (error.Fault fault.Memory) is =
+    inl (refl, λ e. cc e)
+sources_refused before f n running d held told told_now first later (error.Fault fault.Store) never =
+    absurd never
 
 pub none_backed : (a : ShelfState) (n : List ℕ) (mode : Mode) (held : Option Snapshot)
     (e : BackupError) (s : State) (p : History) (t : Trace) → t.unsure ≡ false
-    → AnswersBackup a.layout a.node n (is_differential mode) held s.content s.content [] (Err e)
+    → AnswersBackup a.layout a.node n (running_of a) (is_differential mode) held s.content s.content [] (Err e)
     → BacksUp a a n mode held (Err e) s s p p t t
 none_backed a n mode held e s p t sure answer = record {
   events = [];
@@ -102,18 +110,21 @@ module _ (a b : ShelfState) (n : List ℕ) (mode : Mode) (held : Option Snapshot
       go : (e : ClaimError)
           → (acts : ActsAsClaim {T = T} a b (Claim n (is_differential mode) x.schema x.ring) (Err e)
           s0 s1 p0 p1 t0 t1) → AnswersClaim a n mode (Err e)
-          → AnswersBackup a.layout a.node n (is_differential mode) held s0.content s1.content
+          → AnswersBackup a.layout a.node n (running_of a) (is_differential mode) held s0.content s1.content
           (event_of a.node (Claim n (is_differential mode) x.schema x.ring)
           (claim_ending {T = T} (Err e) acts.makes.last) acts.makes.done ∷ [])
           (Err (error_of_claim e))
-      go (claim_error.Running name) acts answer =
-          (answer, (x, src, (_, record { node_is = refl; call_is = refl; ending_is = refl }, refl)))
+      go (claim_error.Running name) acts answer = (
+        answer.0,
+        answer.1,
+        (x, src, (_, record { node_is = refl; call_is = refl; ending_is = refl }, refl)),
+      )
       go (claim_error.Taken path) acts answer =
           (x, src, (_, record { node_is = refl; call_is = refl; ending_is = refl }, refl))
       go claim_error.Store acts answer =
-          inr (x, src, (_, [], refl, inl (refl, refl, refl)))
+          inr (x, src, (_, [], refl, inl (refl, (λ e. cc e), refl, refl)))
       go claim_error.Memory acts answer =
-          inr (x, src, (_, [], refl, inl (refl, refl, refl)))
+          inr (x, src, (_, [], refl, inl (refl, (λ e. cc e), refl, refl)))
 
   -- ---- the claim was made
 
@@ -144,18 +155,27 @@ module _ (a b : ShelfState) (n : List ℕ) (mode : Mode) (held : Option Snapshot
             (claim_is i).mode,
           )) behind.ends
 
-      pub claimed_made : (finished : Finished) (report : BackupReport)
+      pub claimed_made : AreRising x.keys → (finished : Finished) (report : BackupReport)
           → IsReportOf a.node finished.name finished.records.items report
           → MakesBehind b now claim x.keys held (Ok finished) s1 s2 p1 p2 t1 t2
           → BacksUp a now n mode held (Ok report) s0 s2 p0 p2 t0 t2
-      claimed_made finished report report_is behind =
+      claimed_made rising finished report report_is behind =
           let ends = ends_here (Ok finished) behind in
+          let all : MakesSections a now (event ∷ behind.events) (true ≡ true) ⊥ s0 s2 p0 p2 t0 t2 =
+          in_row a b (event ∷ []) s0 s1 p0 p1 t0 t1 first now behind.events s2 p2 t2
+          (true ≡ true) ⊥ behind.sections in
+          let made : MakesSections a now (event ∷ behind.events) (Unit {0}) ⊥ s0 s2 p0 p2 t0 t2 =
+          sections_as a now (event ∷ behind.events) (true ≡ true) ⊥ (Unit {0}) ⊥ s0 s2 p0 p2 t0 t2
+          (λ ok. refl) (λ never. never) all in
+          let (recorded, backup) =
+          told_backup a.layout a.node n (is_differential mode) x (running_of a) event behind.events
+          refl refl refl rising finished held s0.content s1.content s2.content src
+          (content_on a b (event ∷ []) s0 s1 p0 p1 t0 t1 first)
+          (content_on a now (event ∷ behind.events) s0 s2 p0 p2 t0 t2 made) all.run ends in
           record {
             events = event ∷ behind.events;
             sections = sections_as a now (event ∷ behind.events) _ _ (true ≡ true) ⊥ s0 s2 p0 p2 t0
-                t2 (λ ok. ok) (λ never. never)
-                (in_row a b (event ∷ []) s0 s1 p0 p1 t0 t1 first now behind.events s2 p2 t2
-                (true ≡ true) ⊥ behind.sections);
+                t2 (λ ok. ok) (λ never. never) all;
             answer = record {
               sources = x;
               sources_are = src;
@@ -174,8 +194,13 @@ module _ (a b : ShelfState) (n : List ℕ) (mode : Mode) (held : Option Snapshot
                 keys_are = ends.keys_are;
                 prints_are = told_before a b (event ∷ []) s0 s1 p0 p1 t0 t1 first
                     (ArePrints held finished.records.items) ends.prints_are;
+                records_are = recorded;
+                looked_are = told_before a b (event ∷ []) s0 s1 p0 p1 t0 t1 first
+                    (ends.looked ≡ files_of finished.records.items)
+                    ends.looked_are;
                 manifest_is = ends.manifest_is;
               };
+              backup = backup;
               report_is = subst
                   (λ (name : List ℕ). IsReportOf a.node name finished.records.items report)
                   ends.name_is report_is;

@@ -1,7 +1,12 @@
 pub mod BehindSteps
 pub mod ClaimedSteps
+pub mod EndFacts
 pub mod KeyLemmas
+pub mod KindSteps
+pub mod MadeFacts
 pub mod PlaceSteps
+pub mod PlacedFiles
 pub mod PrintLemmas
+pub mod RecordSteps
 pub mod RowLemmas
 pub mod SectionLemmas

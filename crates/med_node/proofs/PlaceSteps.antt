@@ -1,18 +1,25 @@
 -- Places in a row: one more, and one that was cut short.
-use Rattle.std.proofs.Common.{◌≡◌, ◌∙◌, ◌++◌, ℕ, true, false, List, [], ◌∷◌, append_assoc, map, Option, Some, None, Ok, Err, IfSome, refl, sym, ap, subst}
+use Rattle.std.proofs.Common.{◌≡◌, ◌∙◌, ◌++◌, ℕ, Bool, true, false, List, [], ◌∷◌, append_assoc, map, Option, Some, None, Ok, Err, IfSome, refl, sym, ap, subst}
 use Rattle.std.specs.List.{AllByRecursion, Contains}
 use Rattle.std.specs.declared.cmp.Ordering.TheVariants.{Less}
 use Rattle.std.proofs.lemmas.List.{map-append}
 use Rattle.std.proofs.lemmas.List.Elements.{All-contains, All-from_recursion}
 use Rattle.med_base.specs.declared.key.FileKey.{FileKey}
-use Rattle.med_base.specs.Key.{AreRising, key_cmp}
+use Rattle.med_base.specs.Content.{Content}
+use Rattle.med_base.specs.Effects.{after_all, applied}
+use Rattle.med_base.specs.Key.{AreRising, IsKey, key_cmp}
+use Rattle.med_base.specs.Kinds.{IsBackupName, IsFqdn}
+use Rattle.med_base.specs.Part.{node_part}
 use Rattle.med_base.proofs.Lists.{all_push, all_split}
 use Rattle.med_core.specs.declared.records.How.{How}
 use Rattle.med_core.specs.declared.records.Record.{Record}
-use Rattle.med_core.specs.Section.{Event, Place}
+use Rattle.med_core.specs.Place.{placed_record}
+use Rattle.med_core.specs.Run.{IsRun}
+use Rattle.med_core.specs.Section.{Event, IsSection, Place}
 use Rattle.med_index.specs.Modes.{is_differential}
 use Rattle.med_outside.specs.declared.copy_fault.CopyFault.{CopyFault}
 use Rattle.med_outside.specs.declared.copy_fault.CopyFault.TheVariants as fault
+use Rattle.med_outside.specs.declared.mode.Mode.{Mode}
 use Rattle.med_outside.specs.declared.trace.Trace.{Trace}
 use Rattle.med_outside.specs.Makes.{is_unsure, took}
 use Rattle.med_outside.specs.Sent.{IsPrintOf, IsWholeFile}
@@ -23,13 +30,14 @@ use Rattle.med_shelf.specs.Acts.{event_of}
 use Rattle.med_shelf.specs.Endings.{copy_ending}
 use Rattle.med_shelf.specs.Places.{IsToPlace, Places}
 use Rattle.med_shelf.specs.Records.{keys_of}
-use Rattle.med_shelf.specs.Shelf.{ClaimState, IsClaimOf, MayAct, ShelfState}
+use Rattle.med_shelf.specs.Shelf.{ClaimState, IsClaimOf, MayAct, ShelfState, running_of}
 use Rattle.med_shelf.proofs.Callers.{stays_of}
-use Rattle.med_node.specs.Backups.{ArePrints, PlacedFile, places_of}
+use Rattle.med_node.specs.Backups.{ArePrints, PlacedFile, places_of, records_over}
 use Rattle.med_node.specs.Placing.{PlacedAll, PlacedSome}
-use Rattle.med_node.specs.Sections.{AreDone, MakesSections}
+use Rattle.med_node.specs.Sections.{AreDone, MakesSections, all_effects}
 use Rattle.med_node.proofs.KeyLemmas.{not_below}
-use Rattle.med_node.proofs.RowLemmas.{none_made, one_more}
+use Rattle.med_node.proofs.RecordSteps.{record_on}
+use Rattle.med_node.proofs.RowLemmas.{content_on, none_made, one_more}
 use Rattle.med_node.proofs.SectionLemmas.{copy_effects, done_on}
 
 -- ---- keys
@@ -63,9 +71,28 @@ key_there (Some s) keys front key rest is has =
     (all_split (λ (k : FileKey). HasKey k s) front (key ∷ rest)
     (subst (AllByRecursion (λ (k : FileKey). HasKey k s)) is has)).1.0
 
-pub keys_itself : (ks : List FileKey) → map (λ k. k) ks ≡ ks
-keys_itself [] = refl
-keys_itself (k ∷ ks) = ap (λ l. k ∷ l) (keys_itself ks)
+-- the keys before one rise
+front_rising : (front : List FileKey) (key : FileKey) (rest : List FileKey)
+    → AreRising (front ++ key ∷ rest) → AreRising front
+front_rising [] key rest rising = tt
+front_rising (k ∷ front) key rest rising = (
+  (all_split (λ (j : FileKey). key_cmp k j ≡ Less) front (key ∷ rest) rising.0).0,
+  front_rising front key rest rising.1,
+)
+
+-- ---- records
+
+-- one more record over a content
+more_records : (before f n : List ℕ) (d : Bool) (files : List PlacedFile) (key : FileKey)
+    (bytes : List ℕ) (old now : List Record) (r : Record) (o : Option Content)
+    → IfSome o (λ c. old ≡ records_over before f n d c files)
+    → IfSome o (λ c. r ≡ placed_record before f n d key bytes c) → now ≡ old ++ r ∷ []
+    → IfSome o (λ c. now ≡ records_over before f n d c (files ++ (key, bytes) ∷ []))
+more_records before f n d files key bytes old now r None had one is = tt
+more_records before f n d files key bytes old now r (Some c) had one is =
+    is ∙ (λ i. had i ++ one i ∷ [])
+    ∙ sym (map-append (λ (p : PlacedFile). placed_record before f n d p.0 p.1 c) files
+    ((key, bytes) ∷ []))
 
 -- ---- what is fine
 
@@ -122,7 +149,13 @@ module _ (a : ShelfState) (claim : ClaimState) (held : Option Snapshot) where
     mode_is = refl;
     keys_are = ap keys_of none;
     prints_are = subst (ArePrints held) (sym none) tt;
+    records_are = none_recorded s.content;
   }
+    where
+      none_recorded : (o : Option Content) → IfSome o (λ c. claim.records
+          ≡ records_over a.layout a.node claim.name (is_differential claim.mode) c [])
+      none_recorded None = tt
+      none_recorded (Some c) = none
 
   module _ (b : ShelfState) (k1 : ClaimState) (front : List FileKey) (s0 s1 : State)
       (p0 p1 : History) (t0 t1 : Trace)
@@ -145,9 +178,78 @@ module _ (a : ShelfState) (claim : ClaimState) (held : Option Snapshot) where
           ≡ Place claim.name (is_differential claim.mode) key bytes
       call_so bytes = λ i. Place (so.name_is i) (is_differential (so.mode_is i)) key bytes
 
-      pub place_on : (how : How) → Places b now k1 k2 key held (Ok how) s1 s2 p1 p2 t1 t2
+      -- the record of the file is that over the content before all places
+      record_so : (bytes : List ℕ) (keys rest : List FileKey) → keys ≡ front ++ key ∷ rest
+          → AreRising keys → (r : Record)
+          → IfSome s1.content
+          (λ c. r ≡ placed_record k1.layout k1.node k1.name (is_differential k1.mode) key bytes c)
+          → (e : Event) → e.call ≡ Place k1.name (is_differential k1.mode) key bytes
+          → e.node ≡ b.node
+          → IfSome s1.content
+          (λ c. IsSection b.layout (node_part b.layout b.node c) (running_of b) e)
+          → IfSome s0.content
+          (λ c. r ≡ placed_record a.layout a.node claim.name (is_differential claim.mode) key bytes
+          c)
+      record_so bytes keys rest is rising r so_now e call_is node_is section =
+          go s0.content s1.content
+          (content_on a b so.events s0 s1 p0 p1 t0 t1 so.sections) so.sections.run so_now section
+        where
+          below_key : AllByRecursion (λ (k : FileKey). key_cmp k key ≡ Less)
+              (map (λ (p : PlacedFile). p.0) so.files)
+          below_key =
+              subst (AllByRecursion (λ (k : FileKey). key_cmp k key ≡ Less)) (sym so.all)
+              (below front key rest (subst AreRising is rising))
+
+          asked : (c : Content) (x : Event)
+              → x ≡ record { node = b.node; call = Place k1.name (is_differential k1.mode) key bytes; changes = x.changes; ending = x.ending }
+              → IsSection b.layout (node_part b.layout b.node c) (running_of b) x
+              → IsFqdn b.node × IsBackupName k1.name × IsKey key
+          asked c x same there =
+              let there' = subst (λ (y : Event).
+              IsSection b.layout (node_part b.layout b.node c) (running_of b) y) same there in
+              (there'.node, there'.asked.0, there'.asked.2)
+
+          names_are : k1.layout ≡ a.layout
+          names_are = so.of.layout_is ∙ so.sections.layout_is
+
+          nodes_are : k1.node ≡ a.node
+          nodes_are = so.of.node_is ∙ so.sections.node_is
+
+          go : (o o' : Option Content) → o' ≡ after_all (all_effects so.events) o
+              → IfSome o (λ c. IsRun a.layout c (running_of a) so.events)
+              → IfSome o' (λ c. r ≡ placed_record k1.layout k1.node k1.name
+              (is_differential k1.mode) key bytes c)
+              → IfSome o' (λ c. IsSection b.layout (node_part b.layout b.node c) (running_of b) e)
+              → IfSome o (λ c. r ≡ placed_record a.layout a.node claim.name
+              (is_differential claim.mode) key bytes c)
+          go None o' told run here there = tt
+          go (Some c) None told run here there =
+              let bad : ◌≡◌ {A = Option Content} None (Some (applied (all_effects so.events) c)) =
+              told in absurd (cc bad)
+          go (Some c) (Some c') told run here there =
+              let now_is : c' ≡ applied (all_effects so.events) c = cc told in
+              let (node, name, is_key) =
+              asked c' e
+              (λ i. record {
+                node = node_is i;
+                call = call_is i;
+                changes = e.changes;
+                ending = e.ending;
+              }) there in
+              subst
+              (λ (y : List ℕ × List ℕ × List ℕ × Mode). r ≡ placed_record y.0 y.1 y.2
+              (is_differential y.3) key bytes c')
+              (λ i. (names_are i, nodes_are i, so.name_is i, so.mode_is i)) here
+              ∙ record_on a.layout a.node claim.name (is_differential claim.mode) so.files so.events c
+              (running_of a) run so.done
+              (subst AreRising (sym so.all) (front_rising front key rest (subst AreRising is rising)))
+              c' now_is key bytes (subst IsFqdn so.sections.node_is node)
+              (subst IsBackupName so.name_is name) is_key below_key
+
+      pub place_on : (how : How) (keys rest : List FileKey) → keys ≡ front ++ key ∷ rest
+          → AreRising keys → Places b now k1 k2 key held (Ok how) s1 s2 p1 p2 t1 t2
           → PlacedAll a now claim k2 (front ++ key ∷ []) held s0 s2 p0 p2 t0 t2
-      place_on how places =
+      place_on how keys rest is rising places =
           let (r, how_is, now_is, recorded) = places.records in
           let one : PlacedFile = (key, places.bytes) in
           let m = places.acts.makes in
@@ -190,6 +292,11 @@ module _ (a : ShelfState) (claim : ClaimState) (held : Option Snapshot) where
                       (sym recorded.key_is) places.file_is;
                   print_is = recorded.print_is;
                 }));
+            records_are = more_records a.layout a.node claim.name (is_differential claim.mode)
+                so.files key places.bytes k1.records k2.records r s0.content so.records_are
+                (record_so places.bytes keys rest is rising r recorded.record_is
+                (event_of b.node call (copy_ending {T = How} (Ok how) m.last) m.done) refl refl
+                places.acts.section) rs;
           }
 
       pub place_cut : (why : CopyFault) (keys rest : List FileKey) → keys ≡ front ++ key ∷ rest

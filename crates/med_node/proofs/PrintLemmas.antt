@@ -30,7 +30,7 @@ module _ (before f n : List ℕ) where
       go false = (refl, refl)
 
   -- the record of a place has its key and its fingerprint
-  placed_so : (d : Bool) (key : FileKey) (bytes : List ℕ) (c : Content)
+  pub placed_so : (d : Bool) (key : FileKey) (bytes : List ℕ) (c : Content)
       → ((placed_record before f n d key bytes c).file.key ≡ key)
       × ((placed_record before f n d key bytes c).file.fingerprint ≡ fingerprint_of bytes)
   placed_so true key bytes c = placed_over key bytes (get c (shared_path before f key))

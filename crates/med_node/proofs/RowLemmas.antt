@@ -76,7 +76,7 @@ module _ (a b : ShelfState) (es : List Event) (s0 s1 : State) (p0 p1 : History) 
       sym (so.effects_are ∙ ap (λ l. so.makes.done ++ took l) (so.makes.whole tt).0
       ∙ append-nil so.makes.done)
 
-  content_on : s1.content ≡ after_all (all_effects es) s0.content
+  pub content_on : s1.content ≡ after_all (all_effects es) s0.content
   content_on =
       made_content ⊥ so.xs s0 s1 p0 p1 t0 t1 so.makes
       ∙ ap (λ l. after_all l s0.content)

@@ -1,4 +1,5 @@
 pub mod Backups
+pub mod Facts
 pub mod Placing
 pub mod Sections
 pub mod Sources

@@ -1,5 +1,5 @@
 -- The places of files, one after another.
-use Rattle.std.specs.Prelude.{◌≡◌, ◌++◌, ℕ, Bool, List, [], ◌∷◌, map, Option, Result, IsOk, Ok, Err}
+use Rattle.std.specs.Prelude.{◌≡◌, ◌++◌, ℕ, Bool, List, [], ◌∷◌, map, Option, IfSome, Result, IsOk, Ok, Err}
 use Rattle.med_base.specs.declared.key.FileKey.{FileKey}
 use Rattle.med_base.specs.Content.{Content}
 use Rattle.med_core.specs.Section.{Event, Place}
@@ -13,7 +13,7 @@ use Rattle.med_outside.specs.State.{State, History}
 use Rattle.med_shelf.specs.declared.finished.Finished.{Finished}
 use Rattle.med_shelf.specs.Records.{keys_of}
 use Rattle.med_shelf.specs.Shelf.{ClaimState, IsClaimOf, ShelfState}
-use Rattle.med_node.specs.Backups.{ArePrints, AreWholeFiles, IsCutBehind, IsFinishedBehind, PlacedFile, places_of}
+use Rattle.med_node.specs.Backups.{ArePrints, AreWholeFiles, IsCutBehind, IsFinishedBehind, PlacedFile, places_of, records_over}
 use Rattle.med_node.specs.Sections.{AreDone, MakesSections}
 
 -- The files of these keys were placed in order, and the claim, which had no record, has theirs.
@@ -33,6 +33,8 @@ pub record PlacedAll (shelf shelf_now : ShelfState) (claim claim_now : ClaimStat
     pub mode_is : claim_now.mode ≡ claim.mode
     pub keys_are : keys_of claim_now.records ≡ keys
     pub prints_are : ArePrints held claim_now.records
+    pub records_are : IfSome old.content (λ c. claim_now.records
+        ≡ records_over shelf.layout shelf.node claim.name (is_differential claim.mode) c files)
 
 -- the files of the first keys were placed, and the place of the next one was cut short
 pub record PlacedSome (shelf shelf_now : ShelfState) (claim claim_now : ClaimState)

@@ -13,7 +13,7 @@ use Rattle.med_shelf.specs.declared.errors.ClaimError.TheVariants as claim
 use Rattle.med_node.specs.declared.backup.BackupError.{BackupError}
 use Rattle.med_node.specs.declared.backup.BackupError.TheVariants as error
 use Rattle.med_node.specs.declared.sources.Ready.{Ready}
-use Rattle.med_node.specs.Backups.{HasHost, Sources}
+use Rattle.med_node.specs.Backups.{HasBadRing, HasHost, LacksHost, Sources}
 
 -- what was read, as contracts see it
 abbrev pub sources_of : Ready → Sources
@@ -25,10 +25,8 @@ sources_of ready =
 abbrev pub BlamesSources : (f : List ℕ) → Option Snapshot → (before now : ℕ) → BackupError → Type 0
 BlamesSources f held before now error.NoSnapshot = IfSome held (λ s. s.order ≡ [])
 BlamesSources f held before now (error.BadFileName at) = IfSome held (λ s. IsFirstBad at s.order)
-BlamesSources f held before now (error.BadRing why) = IfSome held (λ s. IsRefused s.ring why)
-BlamesSources f held before now (error.NotInRing host) =
-    (host ≡ f)
-    × IfSome held (λ s. (hosts : List RingHost) × IsRing s.ring hosts × (HasHost hosts f → ⊥))
+BlamesSources f held before now (error.BadRing why) = HasBadRing held why
+BlamesSources f held before now (error.NotInRing host) = (host ≡ f) × LacksHost held f
 BlamesSources f held before now (error.Running name) = ⊥
 BlamesSources f held before now (error.Taken path) = ⊥
 BlamesSources f held before now (error.Fault fault.Snap) = RoseOrFull before now

@@ -20,10 +20,14 @@ claimed shelf name mode = record {
   records = [];
 }
 
+-- the backup of this name is being made
+abbrev pub Runs : ShelfState → List ℕ → Type 0
+Runs shelf name = Contains (running_of shelf) (shelf.node, name)
+
 -- the answer is a new claim of this name, or names it where that is running
 abbrev pub AnswersClaim : ShelfState → List ℕ → Mode → Result ClaimState ClaimError → Type 0
 AnswersClaim shelf name mode (Ok claim) = claim ≡ claimed shelf name mode
-AnswersClaim shelf name mode (Err (Running n)) = n ≡ name
+AnswersClaim shelf name mode (Err (Running n)) = (n ≡ name) × Runs shelf name
 AnswersClaim shelf name mode (Err (Taken path)) = Unit {0}
 AnswersClaim shelf name mode (Err Store) = Unit {0}
 AnswersClaim shelf name mode (Err Memory) = Unit {0}
@@ -48,10 +52,6 @@ IsFirstUnder folder told (Some path) =
     IfSome told
     (λ c. (o : Object) × (rest : List (List ℕ × Object))
     × (objects_under folder c ≡ (path, o) ∷ rest))
-
--- the backup of this name is being made
-abbrev pub Runs : ShelfState → List ℕ → Type 0
-Runs shelf name = Contains (running_of shelf) (shelf.node, name)
 
 -- a look at the name: it isn't running and its folder is free, or this is the refusal
 abbrev pub AnswersLook : {T : Type 0} → ShelfState → List ℕ → Option Content → Result T ClaimError

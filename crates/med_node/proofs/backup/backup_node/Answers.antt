@@ -1,7 +1,7 @@
 use Rattle.std.proofs.Common.{◌∙◌, IfSome, Err, inl, refl, sym, subst}
 use Rattle.med_index.specs.Modes.{is_differential}
 use Rattle.med_outside.specs.declared.copy_fault.CopyFault.TheVariants.{Memory}
-use Rattle.med_shelf.specs.Shelf.{ClaimState}
+use Rattle.med_shelf.specs.Shelf.{ClaimState, running_of}
 use Rattle.med_shelf.proofs.Callers.{new_is_of}
 use Rattle.med_node.specs.declared.backup.BackupError.{BackupError}
 use Rattle.med_node.specs.declared.backup.BackupError.TheVariants.{Fault}
@@ -14,7 +14,7 @@ pub returns-in-Err-clause-backs_up : goal.returns-in-Err-clause-backs_up
 returns-in-Err-clause-backs_up g c =
     none_backed c.args.shelf.now c.args.name.now c.args.mode (g.P.Snap.state c.args.snap.now).held
     (Fault Memory) (g.S.Storage.state c.args.store.now) (g.S.Storage.stood c.args.store.now)
-    c.args.trace.now c.requires.sure (inl refl)
+    c.args.trace.now c.requires.sure (inl (refl, λ e. cc e))
 
 pub returns-in-Err-prepare-clause-backs_up : goal.returns-in-Err-prepare-clause-backs_up
 returns-in-Err-prepare-clause-backs_up g c =
@@ -26,7 +26,7 @@ returns-in-Err-prepare-clause-backs_up g c =
     none_backed shelf c.args.name.now c.args.mode held c.in-Err-prepare.error
     (g.S.Storage.state c.args.store.now) (g.S.Storage.stood c.args.store.now)
     c.args.trace.now c.requires.sure
-    (sources_refused shelf.layout shelf.node c.args.name.now (is_differential c.args.mode) held told
+    (sources_refused shelf.layout shelf.node c.args.name.now (running_of shelf) (is_differential c.args.mode) held told
     told first later c.in-Err-prepare.error
     (subst (λ f. BlamesSources f held first later c.in-Err-prepare.error)
     (c.in-Ok.ensures ∙ c.node.ensures) c.in-Err-prepare.ensures.err))
@@ -67,7 +67,8 @@ returns-in-Ok-place_and_finish-clause-backs_up g c =
     (subst (λ f. IfSome held (λ s. AreSourcesOf f s x)) node c.in-Ok-prepare.ensures.sources)
     _ _ _ _ _ _ c.requires.sure c.in-Ok-claim.claim c.in-Ok-claim.ensures.answer
     (rw c.as_slice-schema.ensures.value at c.in-Ok-claim.ensures.acts)
-    c.place_and_finish.new.shelf _ _ _ c.in-Ok-place_and_finish.finished c.report_of.result
+    c.place_and_finish.new.shelf _ _ _ c.in-Ok-prepare.ensures.rising
+    c.in-Ok-place_and_finish.finished c.report_of.result
     (subst (λ f. IsReportOf f c.in-Ok-place_and_finish.finished.name
     c.in-Ok-place_and_finish.finished.records.items c.report_of.result) node c.report_of.ensures)
     (rw c.prepare.ensures.same.held at c.in-Ok-place_and_finish.ensures.behind)

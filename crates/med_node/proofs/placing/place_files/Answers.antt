@@ -43,8 +43,9 @@ loop-key-preserved g c =
           ∙ sym (append_assoc c.loop-key.yielded (c.in-Some.key ∷ []) rest);
       so = place_on c.args.shelf.now c.args.claim.now (g.P.Snap.state c.args.snap.now).held
           c.loop-key.shelf c.loop-key.claim c.loop-key.yielded _ _ _ _ _ _ inv.so
-          c.place.new.self c.place.new.claim c.in-Some.key _ _ c.place.new.trace _
-          (rw inv.same.held at c.in-Ok.ensures.places);
+          c.place.new.self c.place.new.claim c.in-Some.key _ _ c.place.new.trace _ c.args.keys.items
+          rest (inv.left ∙ ap (λ l. c.loop-key.yielded ++ l) c.in-Some.ensures.steps.0)
+          c.requires.rising (rw inv.same.held at c.in-Ok.ensures.places);
       same = record {
         held = c.place.ensures.asks.same.held ∙ inv.same.held;
         of = c.place.ensures.asks.same.of ∙ inv.same.of;
