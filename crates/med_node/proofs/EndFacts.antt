@@ -31,7 +31,7 @@ use Rattle.med_base.specs.Key.{IsKey}
 use Rattle.med_outside.proofs.Passing.{applied-append}
 use Rattle.med_node.specs.Sections.{AreDone, all_effects}
 use Rattle.med_node.proofs.KindSteps.{AreAt, untouched}
-use Rattle.med_node.proofs.PlacedFiles.{over_part}
+use Rattle.med_node.proofs.PlacedFiles.{done_section, over_part}
 
 -- ---- rows
 
@@ -261,17 +261,8 @@ pub claim_section : (before f n : List ℕ) (d : Bool) (schema ring : List ℕ) 
     → e.node ≡ f → e.call ≡ Claim n d schema ring → e.ending ≡ Done
     → IsClaimDone before f n d schema ring c (effects e)
 claim_section before f n d schema ring c running e section node_is call_is ending_is =
-    let done : Event =
-    record { node = f; call = Claim n d schema ring; changes = e.changes; ending = Done } in
-    let same : e ≡ done =
-    λ i. record {
-      node = node_is i;
-      call = call_is i;
-      changes = e.changes;
-      ending = ending_is i;
-    } in
-    let so : IsSection before (node_part before f c) running done =
-    subst (λ (x : Event). IsSection before (node_part before x.node c) running x) same section in
+    let (so, changes_are) =
+    done_section before c running e f (Claim n d schema ring) section node_is call_is ending_is in
     let (idle, free_there, (t, fit, list)) = so.ends in
     let free : IsFree before c f n = sym (under_part before f so.node n c) ∙ free_there in
     let none : (kind : MetaKind) → get c (meta_path before f n kind) ≡ None =
@@ -283,7 +274,7 @@ claim_section before f n d schema ring c running e section node_is call_is endin
       free = free;
       none = none;
       claimed = subst (λ (xs : List Effect). IsClaimedAt before f n d schema ring c (applied xs c) xs)
-          (sym (ap effects same ∙ list))
+          (sym (changes_are ∙ list))
           (claimed_at before f n schema ring t fit (name_by_kind before f n so.node so.asked) c none
           d);
     }
@@ -386,17 +377,8 @@ pub finish_section : (before f n : List ℕ) (d : Bool) (c : Content) (running :
     → e.node ≡ f → e.call ≡ Finish n d looked → e.ending ≡ Done
     → AllByRecursion (IsStored c) looked → IsFinishedAt before f n looked c (effects e)
 finish_section before f n d c running e looked section node_is call_is ending_is stored =
-    let done : Event =
-    record { node = f; call = Finish n d looked; changes = e.changes; ending = Done } in
-    let same : e ≡ done =
-    λ i. record {
-      node = node_is i;
-      call = call_is i;
-      changes = e.changes;
-      ending = ending_is i;
-    } in
-    let so : IsSection before (node_part before f c) running done =
-    subst (λ (x : Event). IsSection before (node_part before x.node c) running x) same section in
+    let (so, changes_are) =
+    done_section before c running e f (Finish n d looked) section node_is call_is ending_is in
     let (fresh, t, u, fit, names, list) = so.ends in
     let has = name_by_kind before f n so.node so.asked.0 in
     let kept : checked before f n d fresh (node_part before f c) looked
@@ -407,7 +389,7 @@ finish_section before f n d c running e looked section node_is call_is ending_is
     let end : Content =
     applied (manifest_puts before f n (manifest_text looked) t) (node_part before f c) in
     subst (λ (xs : List Effect). IsFinishedAt before f n looked c xs)
-    (sym (ap effects same ∙ list
+    (sym (changes_are ∙ list
     ∙ ap (λ (x : Checked). changes_of_finish before f n (node_part before f c) x
     (manifest_text x.files) t u) kept))
     (finished_at before f n has so.node looked t u fit end c

@@ -9,6 +9,7 @@ use Rattle.med_base.specs.declared.layout.MetaKind.TheVariants as meta
 use Rattle.med_base.specs.Classify.{kind_of}
 use Rattle.med_base.specs.Content.{Content, Object}
 use Rattle.med_base.specs.Effects.{Effect, after_all, applied}
+use Rattle.med_base.proofs.Lists.{all_with}
 use Rattle.med_base.specs.Key.{AreRising}
 use Rattle.med_base.specs.Kinds.{Entry, IsBackupName, Kind, Latest, Meta, Other, Own, Shared, Stray}
 use Rattle.med_base.specs.Layout.{meta_path, shared_path}
@@ -58,11 +59,6 @@ all_two P Q R so (x ∷ xs) a b = (so x a.0 b.0, all_two P Q R so xs a.1 b.1)
 all_of : {A : Type 0} (P : A → Type 0) → ((x : A) → P x) → (xs : List A) → AllByRecursion P xs
 all_of P so [] = tt
 all_of P so (x ∷ xs) = (so x, all_of P so xs)
-
-all_ones : {A : Type 0} (P Q : A → Type 0) → ((x : A) → P x → Q x) → (xs : List A)
-    → AllByRecursion P xs → AllByRecursion Q xs
-all_ones P Q so [] a = tt
-all_ones P Q so (x ∷ xs) a = (so x a.0, all_ones P Q so xs a.1)
 
 -- ---- kinds
 
@@ -360,7 +356,7 @@ pub placed_stand : (before f n : List ℕ) (d : Bool) (old new : Content) (files
 placed_stand before f n d old new files kept =
     all_mapped (λ (p : PlacedFile). placed_record before f n d p.0 p.1 old)
     (λ (r : Record). IsStored new r.file) files
-    (all_ones (IsKept before f n d old new)
+    (all_with (IsKept before f n d old new)
     (λ (p : PlacedFile). IsStored new (placed_record before f n d p.0 p.1 old).file)
     (λ p k. k.print) files kept)
 
@@ -399,7 +395,7 @@ records_before before f n d schema ring c running claim rest run node_is call_is
     all_placed before f n d files split.front (next_content c claim) (next_running running claim)
     run_front split.done rising in
     records_back before f n d c (next_content c claim) files
-    (all_ones (λ (p : PlacedFile). KeyByKind before f n p.0)
+    (all_with (λ (p : PlacedFile). KeyByKind before f n p.0)
     (λ (p : PlacedFile). get (next_content c claim) (shared_path before f p.0)
     ≡ get c (shared_path before f p.0))
     (λ p keyed. untouched (λ q. IsOfBackup f n (kind_of before q)) (effects claim) c

@@ -21,10 +21,11 @@ use Rattle.med_core.specs.declared.records.Record.{Record}
 use Rattle.med_core.specs.Finish.{is_stored_as}
 use Rattle.med_core.specs.Place.{Placing, how_over, is_same_print, placed_record, placing, placing_over, reused, stored_own}
 use Rattle.med_core.specs.Run.{IsRun, effects, next_content, next_running}
-use Rattle.med_core.specs.Section.{Done, Event, IsSection, Place, Running}
+use Rattle.med_core.specs.Section.{Call, Done, Event, IsSection, Place, Running}
 use Rattle.med_manifest.proofs.ByKind.{KeyByKind, key_by_kind}
 use Rattle.med_manifest.proofs.Gets.{get_put_same, same_itself}
 use Rattle.med_outside.proofs.Passing.{applied-append}
+use Rattle.med_shelf.specs.Acts.{event_of}
 use Rattle.med_node.specs.Backups.{PlacedFile, places_of}
 use Rattle.med_node.specs.Facts.{HoldsBytes, MayDiffer}
 use Rattle.med_node.specs.Sections.{AreDone, all_effects}
@@ -169,6 +170,24 @@ over_part before f c =
 
 -- ---- the section of a place
 
+-- a call that was done, over the content of all nodes
+pub done_section : (before : List ℕ) (c : Content) (running : Running) (e : Event) (f : List ℕ)
+    (call : Call) → IsSection before (node_part before e.node c) running e → e.node ≡ f
+    → e.call ≡ call → e.ending ≡ Done
+    → IsSection before (node_part before f c) running (event_of f call Done e.changes)
+    × (effects e ≡ e.changes)
+done_section before c running e f call section node_is call_is ending_is =
+    let same : e ≡ event_of f call Done e.changes =
+    λ i. record {
+      node = node_is i;
+      call = call_is i;
+      changes = e.changes;
+      ending = ending_is i;
+    } in (
+      subst (λ (x : Event). IsSection before (node_part before x.node c) running x) same section,
+      ap effects same,
+    )
+
 pub record IsPlaceDone (before f n : List ℕ) (d : Bool) (k : FileKey) (bytes : List ℕ)
     (c : Content) (xs : List Effect) : Type 0
   where
@@ -183,24 +202,15 @@ pub place_section : (before f n : List ℕ) (d : Bool) (c : Content) (running : 
     → e.node ≡ f → e.call ≡ Place n d k bytes → e.ending ≡ Done
     → IsPlaceDone before f n d k bytes c (effects e)
 place_section before f n d c running e k bytes section node_is call_is ending_is =
-    let done : Event =
-    record { node = f; call = Place n d k bytes; changes = e.changes; ending = Done } in
-    let same : e ≡ done =
-    λ i. record {
-      node = node_is i;
-      call = call_is i;
-      changes = e.changes;
-      ending = ending_is i;
-    } in
-    let so : IsSection before (node_part before f c) running done =
-    subst (λ (x : Event). IsSection before (node_part before x.node c) running x) same section in
+    let (so, changes_are) =
+    done_section before c running e f (Place n d k bytes) section node_is call_is ending_is in
     let (second, list) = so.ends in
     record {
       node = so.node;
       name = so.asked.0;
       key = so.asked.2;
       second = second;
-      changes_are = ap effects same ∙ list ∙ ap (λ (p : Placing). p.changes)
+      changes_are = changes_are ∙ list ∙ ap (λ (p : Placing). p.changes)
           (placing_agrees before f (node_part before f c) c (over_part before f c) n d k
           (key_by_kind before f n k so.node so.asked.0 so.asked.2).shared bytes second);
     }
