@@ -1,10 +1,6 @@
-pub mod BackedUp
-pub mod Backup
-pub mod Copies
-pub mod Errors
-pub mod Plan
-pub mod Sent
-pub mod NodeConfig
-pub mod NodeEnds
-pub mod Taken
+pub mod Backups
+pub mod Facts
+pub mod Placing
+pub mod Sections
+pub mod Sources
 pub mod Walked

@@ -1,18 +1,17 @@
-//! The backup of one node: the keys of its snapshot, the look at the bucket, and the puts.
+//! The backup of one node over its shelf: claim, place of each file, finish.
 //!
-//! `backup_node` opens the bucket and the snapshot, copies the one into the other, and closes the
-//! snapshot whatever the answer is. Its contract is a plan: its steps in their order, each with
-//! what it asks, what it answers and what it leaves.
-//! Read `specs/Plan.antt` first, then `specs/Backup.antt`.
+//! `backup_node` reads what a backup begins with, and then makes its sections in a row. Its contract says
+//! which sections they are, what each answer means of them, and what the report counts.
+//! Read `specs/Sections.antt` first, then `specs/Backups.antt`.
 #![tactic(auto)]
 
-mod copy;
+mod backup;
+mod behind;
 mod keys;
-mod look;
-mod node;
-mod place;
-mod upload;
+mod placing;
+mod report;
+mod sources;
 
+pub use backup::{BackupError, backup_node};
 pub use keys::{WalkError, walk};
-pub use look::BackupError;
-pub use node::backup_node;
+pub use report::BackupReport;

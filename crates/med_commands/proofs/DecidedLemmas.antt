@@ -1,24 +1,26 @@
 -- What is told decides how a command ends.
 use Rattle.std.proofs.Common.{◌≡◌, true, false, List, ℕ, Option, Some, Result, Ok, Err, sym, ◌∙◌, ap, subst}
-use Rattle.med_backup.specs.NodeConfig.{NodeConfig, node_config_of, snap_at}
+use Rattle.med_commands.specs.NodeConfig.{NodeConfig, node_config_of}
 use Rattle.med_ini.specs.declared.config.Config.{Config}
-use Rattle.med_outside.specs.Ends.{Files, on, Refusal, BadWords, NotBuilt, BadConfig, Taken, NoSnapshot, BadFileName, BadManifest, Refused, Plan, step, Leads}
+use Rattle.med_outside.specs.Device.{Files, on}
+use Rattle.med_plan.specs.Ends.{Refusal, BadWords, NotBuilt, BadConfig, Taken, NoSnapshot, BadFileName, BadRing, NotInRing, BadManifest, Refused, Plan, step, Leads}
 use Rattle.med_outside.specs.Snapshot.{Snapshot}
 use Rattle.med_outside.specs.World.{World}
-use Rattle.med_outside.specs.declared.mode.Mode.TheVariants.{Full, Differential}
 use Rattle.med_words.specs.Blames.{BlamesWords}
 use Rattle.med_words.specs.Request.{Asked, IsRequest}
 use Rattle.med_words.specs.Tables.{Action, backup, build_index, word_of}
 use Rattle.med_words.specs.declared.request.Usage.{Usage}
 use Rattle.med_words.specs.declared.request.WordsError.TheVariants as words_error
 use Rattle.med_words.proofs.OneRequest.{one_request, asks_nothing}
+use Rattle.med_commands.specs.Backups.{node_plan, snapshot_plan}
 use Rattle.med_commands.specs.Decided.{is_built, IsAskedIndex, IsAskedOver, IsDecided}
 use Rattle.med_commands.specs.Headline.{End}
 use Rattle.med_commands.specs.Loaded.{IsConfigured, IsRefused}
-use Rattle.med_commands.specs.Plans.{ReadsConfig, ReadsWords, IsUntouched, unbuilt_plan, action_plan, plan_of, words_plan}
-use Rattle.med_commands.specs.Texts.{usage_text}
+use Rattle.med_commands.specs.Plans.{unbuilt_plan, action_plan, plan_of, words_plan}
+use Rattle.med_commands.specs.Steps.{ReadsConfig, ReadsWords, IsUntouched}
+use Rattle.med_commands.specs.Texts.{ring_why_text, usage_text}
 use Rattle.med_commands.proofs.DecidedTexts.{one_usage, one_text}
-use Rattle.med_commands.proofs.DecidedWork.{by_answer, work, node_work, node_leads, free_leads, taken_leads, empty_leads, bad_key_leads}
+use Rattle.med_commands.proofs.DecidedWork.{by_answer, node_leads, free_leads, taken_leads, empty_leads, bad_key_leads, bad_ring_leads, lack_leads}
 use Rattle.med_commands.proofs.IndexDecided.{index_work, all_read_leads, first_unread_leads}
 use Rattle.med_commands.proofs.OneNodeConfig.{one_node_config, not_refused}
 
@@ -43,12 +45,7 @@ module _ (asked : Asked) (a b : World) (file : Option (List ℕ))
       no : (f : Refusal) → ReadsConfig a.files.contents asked (Err f) → ⊥
       no (BadConfig text) h =
           not_refused a.files.contents asked file file_is text config configured h
-      no (NoSnapshot name) h = h
-      no (BadFileName at) h = h
-      no (BadWords text) h = h
-      no (NotBuilt word) h = h
-      no (BadManifest path) h = h
-      no (Taken name path) h = h
+      no f h = h
 
   config_refused : (text : List ℕ) → IsRefused a.files.contents asked text
       → Leads read_first (Err (Refused (BadConfig text)))
@@ -62,22 +59,17 @@ module _ (asked : Asked) (a b : World) (file : Option (List ℕ))
       yes (BadConfig other) h =
           ap (λ (t : List ℕ). Err (Refused (BadConfig t)))
           (one_text a.files.contents asked file file_is text other refused h)
-      yes (NoSnapshot name) h = absurd h
-      yes (BadFileName at) h = absurd h
-      yes (BadWords text) h = absurd h
-      yes (NotBuilt word) h = absurd h
-      yes (BadManifest path) h = absurd h
-      yes (Taken name path) h = absurd h
+      yes f h = absurd h
 
 bad_config_leads : (action : Action) (asked : Asked) (a b : World) (file : Option (List ℕ))
     (text : List ℕ) → is_built action ≡ true → a.files.contents asked.config_file ≡ Some file
     → IsRefused a.files.contents asked text
     → Leads (action_plan action asked a b) (Err (Refused (BadConfig text)))
-bad_config_leads (backup n Full) asked a b file text e file_is refused =
-    config_refused asked a b file file_is (λ node_config. node_work node_config n a b) text refused
+bad_config_leads (backup n mode) asked a b file text e file_is refused =
+    config_refused asked a b file file_is (λ node_config. node_plan n mode a b node_config) text
+    refused
 bad_config_leads build_index asked a b file text e file_is refused =
     config_refused asked a b file file_is (λ node_config. index_work node_config a b) text refused
-bad_config_leads (backup n Differential) asked a b file text e file_is refused = absurd (cc e)
 bad_config_leads action asked a b file text e file_is refused = absurd (cc e)
 
 -- a rebuild of the index over a config file that is told: the work on the storage decides
@@ -89,15 +81,16 @@ over_index asked a b node_config asks r leads =
     (config_read asked a b asks.file asks.file_is (λ t. index_work t a b) node_config asks.config
     asks.configured asks.node_config_is r leads)
 
--- a full backup over a snapshot that is told: the work on the snapshot decides
+-- a backup over a snapshot that is told: the work on the snapshot decides
 over_snapshot : (asked : Asked) (node_config : NodeConfig) (n : List ℕ) (a b : World) (s : Snapshot)
-    → IsAskedOver asked a node_config n s → (r : End)
-    → Leads (work node_config n a b (snap_at a.nodes.snaps node_config n) a.store.content) r
+    → (over : IsAskedOver asked a node_config n s) → (r : End)
+    → Leads (snapshot_plan n over.asks.mode a b node_config) r
     → Leads (plan_of asked a b) r
 over_snapshot asked node_config n a b s over r leads =
     subst (λ (action : Action). Leads (action_plan action asked a b) r) (sym over.asks.action)
-    (config_read asked a b over.asks.file over.asks.file_is (λ t. node_work t n a b) node_config
-    over.config over.configured over.node_config_is r (node_leads node_config n a b r leads))
+    (config_read asked a b over.asks.file over.asks.file_is
+    (λ t. node_plan n over.asks.mode a b t) node_config over.config over.configured
+    over.node_config_is r (node_leads n over.asks.mode a b node_config r leads))
 
 -- ---- the command and the words
 
@@ -115,8 +108,7 @@ unbuilt_leads word a b = by_answer _ _ _ (λ x h. absurd (no x h)) yes
 
 no_command : (action : Action) (asked : Asked) (a b : World) → is_built action ≡ false
     → Leads (action_plan action asked a b) (Err (Refused (NotBuilt (word_of action))))
-no_command (backup n Full) asked a b e = absurd (cc e)
-no_command (backup n Differential) asked a b e = unbuilt_leads _ a b
+no_command (backup n mode) asked a b e = absurd (cc e)
 no_command build_index asked a b e = absurd (cc e)
 no_command action asked a b e = unbuilt_leads _ a b
 
@@ -128,12 +120,7 @@ words_lead words asked a b told is leads =
   where
     no : (f : Refusal) → ReadsWords words (Err f) → ⊥
     no (BadWords text) h = h.2 asked is
-    no (NoSnapshot name) h = h
-    no (BadFileName at) h = h
-    no (BadConfig text) h = h
-    no (NotBuilt word) h = h
-    no (BadManifest path) h = h
-    no (Taken name path) h = h
+    no f h = h
 
 bad_words_lead : (words : List (List ℕ)) (usage : Usage) (a b : World)
     → BlamesWords words (words_error.Usage usage)
@@ -147,29 +134,30 @@ bad_words_lead words usage a b blames =
     yes (BadWords text) h =
         ap (λ (t : List ℕ). Err (Refused (BadWords t)))
         (one_usage words usage h.0 blames h.1 ∙ sym h.3)
-    yes (NoSnapshot name) h = absurd h
-    yes (BadFileName at) h = absurd h
-    yes (BadConfig text) h = absurd h
-    yes (NotBuilt word) h = absurd h
-    yes (BadManifest path) h = absurd h
-    yes (Taken name path) h = absurd h
+    yes f h = absurd h
 
 -- ---- the law
 
 pub decided : (a b : World) → IsDecided a b
 decided a b = record {
-  done = λ asked node_config n s c over walked content none.
+  done = λ asked node_config n s c over can content none.
       over_snapshot asked node_config n a b s over (Ok tt)
-      (free_leads node_config n a b _ _ s over.snapshot_is c walked content none);
-  taken = λ asked node_config n s c path over walked content first.
+      (free_leads n over.asks.mode a b node_config s over.snapshot_is c can content none);
+  taken = λ asked node_config n s c path over can content first.
       over_snapshot asked node_config n a b s over (Err (Refused (Taken n path)))
-      (taken_leads node_config n a b _ _ s over.snapshot_is c path walked content first);
+      (taken_leads n over.asks.mode a b node_config s over.snapshot_is c path can content first);
   no_snapshot = λ asked node_config n s over none.
       over_snapshot asked node_config n a b s over (Err (Refused (NoSnapshot n)))
-      (empty_leads node_config n a b _ _ s over.snapshot_is none);
+      (empty_leads n over.asks.mode a b node_config s over.snapshot_is none);
   bad_file_name = λ asked node_config n s at over bad.
       over_snapshot asked node_config n a b s over (Err (Refused (BadFileName at)))
-      (bad_key_leads node_config n a b _ _ s over.snapshot_is at bad);
+      (bad_key_leads n over.asks.mode a b node_config s over.snapshot_is at bad);
+  bad_ring = λ asked node_config n s why over walked bad.
+      over_snapshot asked node_config n a b s over (Err (Refused (BadRing (ring_why_text why))))
+      (bad_ring_leads n over.asks.mode a b node_config s over.snapshot_is walked why bad);
+  not_in_ring = λ asked node_config n s hosts over walked reads lacks.
+      over_snapshot asked node_config n a b s over (Err (Refused (NotInRing node_config.node)))
+      (lack_leads n over.asks.mode a b node_config s over.snapshot_is walked hosts reads lacks);
   all_read = λ asked node_config c asks content read.
       over_index asked a b node_config asks (Ok tt)
       (all_read_leads node_config a b c content read);

@@ -1,24 +1,37 @@
 -- What is told of a snapshot and of the storage leads the work on a node to one end.
-use Rattle.std.proofs.Common.{◌≡◌, ℕ, zero, suc, List, [], ◌∷◌, take, slice_get, Option, Some, None, IfSome, Result, Ok, Err, MatchResult, refl, sym, ◌∙◌, ap, ap₂, subst}
+use Rattle.std.proofs.Common.{◌≡◌, ℕ, zero, suc, List, [], ◌∷◌, ◌++◌, codes, take, slice_get, Option, Some, None, IfSome, Result, Ok, Err, MatchResult, refl, sym, ◌∙◌, ap, ap₂, subst}
+use Rattle.std.specs.Fmt.{signed_decimal}
 use Rattle.std.specs.List.{AllByRecursion}
 use Rattle.med_base.specs.Content.{Content, Object, objects_under}
 use Rattle.med_base.specs.Layout.{backup_folder}
 use Rattle.med_base.specs.declared.key.FileKey.{FileKey}
 use Rattle.med_base.specs.Key.{IsKey}
 use Rattle.med_base.proofs.Lists.{not_all}
-use Rattle.med_backup.specs.Copies.{ChangeLists}
-use Rattle.med_backup.specs.Plan.{Left, Leaves, Walks, FindsFree, copy_plan, snapshot_plan, node_plan}
-use Rattle.med_backup.proofs.NodeSteps.{worked}
-use Rattle.med_backup.specs.NodeConfig.{NodeConfig, snap_at}
-use Rattle.med_backup.specs.Taken.{first_path}
+use Rattle.med_commands.specs.NodeConfig.{NodeConfig, snap_at}
+use Rattle.med_plan.specs.Ends.{Passed}
+use Rattle.med_commands.specs.Taken.{first_path}
 use Rattle.med_backup.specs.Walked.{CanBeWalked, IsFirstBad}
-use Rattle.med_manifest.specs.declared.manifest.FileRecord.{FileRecord}
-use Rattle.med_outside.specs.Ends.{Refusal, BadWords, NotBuilt, BadConfig, Taken, NoSnapshot, BadFileName, BadManifest, Refused, Plan, then, said_as, Leads}
+use Rattle.med_backup.specs.Backups.{AreSourcesOf, HasHost, Sources}
+use Rattle.med_backup.specs.declared.report.BackupReport.{BackupReport}
+use Rattle.med_outside.specs.Device.{Nodes, Storage, on}
+use Rattle.med_plan.specs.Ends.{Refusal, Taken, NoSnapshot, BadFileName, BadRing, NotInRing, Refused, step, Leads}
 use Rattle.med_outside.specs.Snapshot.{Snapshot}
 use Rattle.med_outside.specs.World.{World}
+use Rattle.med_outside.specs.declared.mode.Mode.{Mode}
+use Rattle.med_ring.specs.declared.error.RingWhy.{RingWhy}
+use Rattle.med_ring.specs.declared.error.RingWhy.TheVariants.{NotJson, NotRing, TokenRange, TokenTwice}
+use Rattle.med_ring.specs.Blames.{IsRefused as IsNoRing, IsSameWhy}
+use Rattle.med_ring.specs.Host.{RingHost}
+use Rattle.med_ring.specs.Ring.{IsRing}
+use Rattle.med_ring.proofs.Faults.{no_ring}
+use Rattle.med_ring.proofs.OneCause.{cause_is_one}
+use Rattle.med_ring.proofs.OneRing.{ring_is_one}
+use Rattle.med_commands.specs.Backups.{FindsFree, IsDone, IsPart, Prepares, copy_plan, held_at, node_plan, snapshot_plan}
+use Rattle.med_commands.specs.Decided.{CanBeBackedUp}
 use Rattle.med_commands.specs.Headline.{End}
-use Rattle.med_commands.specs.Plans.{IsDone, prints}
 use Rattle.med_commands.specs.Report.{report_line}
+use Rattle.med_commands.specs.Steps.{prints}
+use Rattle.med_commands.specs.Texts.{ring_why_text}
 
 -- what follows from each value that a step answers, and from each of its refusals, follows
 pub by_answer : {T : Type 0} (answers : Result T Refusal → Type 0) (P : T → Type 0)
@@ -65,153 +78,194 @@ no_path path objects none is =
 one_path : (x y : List ℕ) (o : Option (List ℕ)) → o ≡ Some x → Some y ≡ o → x ≡ y
 one_path x y o e g = cc (sym e ∙ sym g)
 
+-- ---- the token map
+
+same_text : (why other : RingWhy) → IsSameWhy why other → ring_why_text why ≡ ring_why_text other
+same_text NotJson NotJson same = refl
+same_text (NotRing a) (NotRing b) same = ap (λ t. codes "ring: bad host " ++ t) same
+same_text (TokenRange a) (TokenRange b) same =
+    ap (λ t. codes "ring: token out of range of " ++ t) same
+same_text (TokenTwice a) (TokenTwice b) same =
+    ap (λ t. codes "ring: token " ++ (signed_decimal t ++ codes " twice")) same
+same_text _ _ same = absurd same
+
 -- ---- the work on a node
 
-module _ (node_config : NodeConfig) (n : List ℕ) (a b : World) where
-  -- what is left of the work, in words of the command
-  abbrev word : Left → Type 0
-  word left =
-      Leaves a.nodes b.nodes a.store b.store a.stood b.stood left × (b.out ≡ a.out)
-
-  -- what follows the work
-  abbrev ending : List FileRecord → Plan (Type 0) (Unit {0})
-  ending files = prints (report_line n node_config.node files) (IsDone node_config n a b files) a b
-
-  -- a part of the work on the open snapshot, and what follows it
-  abbrev part : Plan ChangeLists (List FileRecord) → Plan (Type 0) (Unit {0})
-  part p = then (said_as word (said_as (worked node_config n) p)) ending
-
+module _ (n : List ℕ) (mode : Mode) (a b : World) (node_config : NodeConfig) where
   -- the objects under the folder of the name
   abbrev under : Content → List (List ℕ × Object)
   under c = objects_under (backup_folder node_config.before node_config.node n) c
 
   -- what the look at the folder answers
-  abbrev Finds : Option Content → Result (Unit {0}) Refusal → Type 0
-  Finds told = FindsFree node_config.before node_config.node n told
+  abbrev Finds : Result (Unit {0}) Refusal → Type 0
+  Finds = FindsFree node_config.before node_config.node n a.store.content
 
-  -- the puts, and what follows them
-  abbrev puts : Option Snapshot → List FileKey → (schema : List ℕ) → Plan (Type 0) (Unit {0})
-  puts held order schema = part (copy_plan node_config.before node_config.node n held order schema)
+  -- what the look at the snapshot answers
+  abbrev Begins : Result Sources Refusal → Type 0
+  Begins = Prepares node_config.node n (held_at node_config n a b)
 
-  ending_leads : (files : List FileRecord) → Leads (ending files) (Ok tt)
-  ending_leads files = by_answer _ _ _ (λ x h. refl) (λ f h. absurd h)
+  -- the sections, and what follows them
+  sections_lead : (x : Sources)
+      → Leads (step {T = BackupReport} Passed (Nodes ∷ on Storage)
+      (IsPart node_config n a b mode x) (λ report.
+      prints (report_line report) (IsDone node_config n a b mode x report) a b)) (Ok tt)
+  sections_lead x =
+      by_answer _ _ _ (λ report h. by_answer _ _ _ (λ y g. refl) (λ f g. absurd g))
+      (λ f h. absurd h)
 
-  puts_lead : (held : Option Snapshot) (order : List FileKey) (schema : List ℕ)
-      → Leads (puts held order schema) (Ok tt)
-  puts_lead held order schema =
-      by_answer _ _ _ (λ x h.
-      by_answer _ _ _ (λ files g.
-      by_answer _ _ _ (λ y k. ending_leads files)
-      (λ f k. absurd k)) (λ f g. absurd g)) (λ f h. absurd h)
+  module _ (c : Content) (content : a.store.content ≡ Some c) where
+    free_copies : under c ≡ [] → (x : Sources) → Leads (copy_plan n mode a b node_config x) (Ok tt)
+    free_copies none x = by_answer _ _ _ (λ y h. sections_lead x) (λ f h. absurd (no f h))
+      where
+        no : (f : Refusal) → Finds (Err f) → ⊥
+        no (Taken name path) h =
+            no_path path (under c) none
+            (subst (λ (o : Option Content). IfSome o (λ c. Some path ≡ first_path (under c)))
+            content h.1)
+        no f h = h
 
-  module _ (held : Option Snapshot) (told : Option Content) where
-    abbrev pub work : Plan (Type 0) (Unit {0})
-    work = part (snapshot_plan node_config.before node_config.node n held told)
+    taken_stops : (path : List ℕ) → first_path (under c) ≡ Some path → (x : Sources)
+        → Leads (copy_plan n mode a b node_config x) (Err (Refused (Taken n path)))
+    taken_stops path first x = by_answer _ _ _ (λ y h. absurd (no y h)) yes
+      where
+        no : (y : Unit {0}) → Finds (Ok y) → ⊥
+        no y h =
+            let bad : ◌≡◌ {A = Option (List ℕ)} None (Some path) =
+            subst (λ (o : Option Content). IfSome o (λ c. None ≡ first_path (under c))) content h
+            ∙ first in cc bad
 
-    module _ (s : Snapshot) (is : held ≡ Some s) where
-      on : (P : Snapshot → Type 0) → IfSome held P → P s
-      on P h = subst (λ (o : Option Snapshot). IfSome o P) is h
+        yes : (f : Refusal) → Finds (Err f)
+            → ◌≡◌ {A = End} (Err (Refused (Taken n path))) (Err (Refused f))
+        yes (Taken name other) h =
+            ap₂ (λ (m p : List ℕ). Err (Refused (Taken m p))) (sym h.0)
+            (one_path path other (first_path (under c)) first
+            (subst (λ (o : Option Content). IfSome o (λ c. Some other ≡ first_path (under c)))
+            content h.1))
+        yes f h = absurd h
 
-      -- the keys are names of files: the look at the folder decides
-      found : (r : End) → CanBeWalked s → ((x : Unit {0}) → Finds told (Ok x) → r ≡ Ok tt)
-          → ((f : Refusal) → Finds told (Err f) → r ≡ Err (Refused f)) → Leads work r
-      found r walked free taken =
-          by_answer _ _ _ (λ order w.
-          by_answer _ _ _ (λ schema h.
+  module _ (s : Snapshot) (is : snap_at a.nodes.snaps node_config n ≡ Some s) where
+    on_it : (P : Snapshot → Type 0) → IfSome (snap_at a.nodes.snaps node_config n) P → P s
+    on_it P h = subst (λ (o : Option Snapshot). IfSome o P) is h
+
+    -- the snapshot can be backed up: what follows the look at it decides
+    prepared : (r : End) → CanBeBackedUp node_config.node s
+        → ((x : Sources) → Leads (copy_plan n mode a b node_config x) r)
+        → Leads (snapshot_plan n mode a b node_config) r
+    prepared r can leads = by_answer _ _ _ (λ x h. leads x) (λ f h. absurd (no f h))
+      where
+        no : (f : Refusal) → Begins (Err f) → ⊥
+        no (NoSnapshot name) h = can.walked.some (on_it (λ s. s.order ≡ []) h.1)
+        no (BadFileName at) h =
+            not_walked s at can.walked (on_it (λ s. IsFirstBad at s.order) h)
+        no (BadRing text) (why, bad, told) =
+            no_ring s.ring why (on_it (λ s. CanBeWalked s × IsNoRing s.ring why) bad).1 can.hosts
+            can.reads
+        no (NotInRing host) (host_is, lacks) =
+            let h = on_it (λ s. CanBeWalked s × ((hosts : List RingHost) × IsRing s.ring hosts
+            × (HasHost hosts node_config.node → ⊥))) lacks in
+            h.1.2 (subst (λ (hosts : List RingHost). HasHost hosts node_config.node)
+            (ring_is_one s.ring can.hosts h.1.0 can.reads h.1.1) can.among)
+        no f h = h
+
+    pub free_leads : (c : Content) → CanBeBackedUp node_config.node s → a.store.content ≡ Some c
+        → under c ≡ [] → Leads (snapshot_plan n mode a b node_config) (Ok tt)
+    free_leads c can content none = prepared (Ok tt) can (free_copies c content none)
+
+    pub taken_leads : (c : Content) (path : List ℕ) → CanBeBackedUp node_config.node s
+        → a.store.content ≡ Some c → first_path (under c) ≡ Some path
+        → Leads (snapshot_plan n mode a b node_config) (Err (Refused (Taken n path)))
+    taken_leads c path can content first =
+        prepared (Err (Refused (Taken n path))) can (taken_stops c content path first)
+
+    -- what was read of the snapshot
+    sources_on : (x : Sources) → Begins (Ok x) → AreSourcesOf node_config.node s x
+    sources_on x h = on_it (λ s. AreSourcesOf node_config.node s x) h
+
+    pub empty_leads : s.order ≡ []
+        → Leads (snapshot_plan n mode a b node_config) (Err (Refused (NoSnapshot n)))
+    empty_leads none =
+        by_answer _ _ _ (λ x h. absurd ((sources_on x h).walked.some none)) yes
+      where
+        yes : (f : Refusal) → Begins (Err f)
+            → ◌≡◌ {A = End} (Err (Refused (NoSnapshot n))) (Err (Refused f))
+        yes (NoSnapshot name) h = ap (λ (m : List ℕ). Err (Refused (NoSnapshot m))) (sym h.0)
+        yes (BadFileName at) h =
+            absurd (no_first at s.order none (on_it (λ s. IsFirstBad at s.order) h))
+        yes (BadRing text) (why, bad, told) =
+            absurd ((on_it (λ s. CanBeWalked s × IsNoRing s.ring why) bad).0.some none)
+        yes (NotInRing host) (host_is, lacks) =
+            absurd ((on_it (λ s. CanBeWalked s × ((hosts : List RingHost) × IsRing s.ring hosts
+            × (HasHost hosts node_config.node → ⊥))) lacks).0.some none)
+        yes f h = absurd h
+
+    pub bad_key_leads : (at : ℕ) → IsFirstBad at s.order
+        → Leads (snapshot_plan n mode a b node_config) (Err (Refused (BadFileName at)))
+    bad_key_leads at bad =
+        by_answer _ _ _ (λ x h. absurd (not_walked s at (sources_on x h).walked bad)) yes
+      where
+        yes : (f : Refusal) → Begins (Err f)
+            → ◌≡◌ {A = End} (Err (Refused (BadFileName at))) (Err (Refused f))
+        yes (NoSnapshot name) h =
+            absurd (no_first at s.order (on_it (λ s. s.order ≡ []) h.1) bad)
+        yes (BadFileName other) h =
+            ap (λ (m : ℕ). Err (Refused (BadFileName m)))
+            (one_first s.order at other bad (on_it (λ s. IsFirstBad other s.order) h))
+        yes (BadRing text) (why, no_ring, told) =
+            absurd (not_walked s at
+            (on_it (λ s. CanBeWalked s × IsNoRing s.ring why) no_ring).0 bad)
+        yes (NotInRing host) (host_is, lacks) =
+            absurd (not_walked s at
+            (on_it (λ s. CanBeWalked s × ((hosts : List RingHost) × IsRing s.ring hosts
+            × (HasHost hosts node_config.node → ⊥))) lacks).0 bad)
+        yes f h = absurd h
+
+    module _ (walked : CanBeWalked s) where
+      pub bad_ring_leads : (why : RingWhy) → IsNoRing s.ring why
+          → Leads (snapshot_plan n mode a b node_config)
+          (Err (Refused (BadRing (ring_why_text why))))
+      bad_ring_leads why bad =
           by_answer _ _ _
-          (λ x e. subst (Leads (puts held order schema)) (sym (free x e))
-          (puts_lead held order schema))
-          taken) (λ f h. absurd h)) (λ f w. absurd (no f w))
+          (λ x h. absurd (no_ring s.ring why bad (sources_on x h).hosts (sources_on x h).reads)) yes
         where
-          no : (f : Refusal) → Walks n held (Err f) → ⊥
-          no (NoSnapshot name) w = walked.some (on (λ s. s.order ≡ []) w.1)
-          no (BadFileName at) w = not_walked s at walked (on (λ s. IsFirstBad at s.order) w)
-          no (BadWords text) w = w
-          no (NotBuilt word) w = w
-          no (BadManifest path) w = w
-          no (BadConfig text) w = w
-          no (Taken name path) w = w
+          yes : (f : Refusal) → Begins (Err f)
+              → ◌≡◌ {A = End} (Err (Refused (BadRing (ring_why_text why)))) (Err (Refused f))
+          yes (NoSnapshot name) h = absurd (walked.some (on_it (λ s. s.order ≡ []) h.1))
+          yes (BadFileName at) h =
+              absurd (not_walked s at walked (on_it (λ s. IsFirstBad at s.order) h))
+          yes (BadRing text) (other, no_ring, told) =
+              ap (λ (t : List ℕ). Err (Refused (BadRing t)))
+              (same_text why other (cause_is_one s.ring why other bad
+              (on_it (λ s. CanBeWalked s × IsNoRing s.ring other) no_ring).1) ∙ sym told)
+          yes (NotInRing host) (host_is, lacks) =
+              let h = on_it (λ s. CanBeWalked s × ((hosts : List RingHost) × IsRing s.ring hosts
+              × (HasHost hosts node_config.node → ⊥))) lacks in
+              absurd (no_ring s.ring why bad h.1.0 h.1.1)
+          yes f h = absurd h
 
-      pub free_leads : (c : Content) → CanBeWalked s → told ≡ Some c → under c ≡ []
-          → Leads work (Ok tt)
-      free_leads c walked content none = found (Ok tt) walked (λ x h. refl) (λ f h. absurd (no f h))
+      pub lack_leads : (hosts : List RingHost) → IsRing s.ring hosts
+          → (HasHost hosts node_config.node → ⊥)
+          → Leads (snapshot_plan n mode a b node_config)
+          (Err (Refused (NotInRing node_config.node)))
+      lack_leads hosts reads lacks =
+          by_answer _ _ _
+          (λ x h. absurd (lacks (subst (λ (l : List RingHost). HasHost l node_config.node)
+          (ring_is_one s.ring (sources_on x h).hosts hosts (sources_on x h).reads reads)
+          (sources_on x h).among))) yes
         where
-          no : (f : Refusal) → Finds told (Err f) → ⊥
-          no (Taken name path) h =
-              no_path path (under c) none
-              (subst (λ (o : Option Content). IfSome o (λ c. Some path ≡ first_path (under c)))
-              content h.1)
-          no (NoSnapshot name) h = h
-          no (BadFileName at) h = h
-          no (BadWords text) h = h
-          no (NotBuilt word) h = h
-          no (BadManifest path) h = h
-          no (BadConfig text) h = h
+          yes : (f : Refusal) → Begins (Err f)
+              → ◌≡◌ {A = End} (Err (Refused (NotInRing node_config.node))) (Err (Refused f))
+          yes (NoSnapshot name) h = absurd (walked.some (on_it (λ s. s.order ≡ []) h.1))
+          yes (BadFileName at) h =
+              absurd (not_walked s at walked (on_it (λ s. IsFirstBad at s.order) h))
+          yes (BadRing text) (why, bad, told) =
+              absurd (no_ring s.ring why
+              (on_it (λ s. CanBeWalked s × IsNoRing s.ring why) bad).1 hosts reads)
+          yes (NotInRing host) (host_is, others) =
+              ap (λ (h : List ℕ). Err (Refused (NotInRing h))) (sym host_is)
+          yes f h = absurd h
 
-      pub taken_leads : (c : Content) (path : List ℕ) → CanBeWalked s → told ≡ Some c
-          → first_path (under c) ≡ Some path → Leads work (Err (Refused (Taken n path)))
-      taken_leads c path walked content first =
-          found (Err (Refused (Taken n path))) walked (λ x h. absurd (no h)) yes
-        where
-          no : Finds told (Ok tt) → ⊥
-          no h =
-              let bad : ◌≡◌ {A = Option (List ℕ)} None (Some path) =
-              subst (λ (o : Option Content). IfSome o (λ c. None ≡ first_path (under c))) content h
-              ∙ first in cc bad
-
-          yes : (f : Refusal) → Finds told (Err f)
-              → ◌≡◌ {A = End} (Err (Refused (Taken n path))) (Err (Refused f))
-          yes (Taken name other) h =
-              ap₂ (λ (m p : List ℕ). Err (Refused (Taken m p))) (sym h.0)
-              (one_path path other (first_path (under c)) first
-              (subst (λ (o : Option Content). IfSome o (λ c. Some other ≡ first_path (under c)))
-              content h.1))
-          yes (NoSnapshot name) h = absurd h
-          yes (BadFileName at) h = absurd h
-          yes (BadWords text) h = absurd h
-          yes (NotBuilt word) h = absurd h
-          yes (BadManifest path) h = absurd h
-          yes (BadConfig text) h = absurd h
-
-      pub empty_leads : s.order ≡ [] → Leads work (Err (Refused (NoSnapshot n)))
-      empty_leads none =
-          by_answer _ _ _ (λ order w. absurd ((on CanBeWalked w.2).some none)) yes
-        where
-          yes : (f : Refusal) → Walks n held (Err f)
-              → ◌≡◌ {A = End} (Err (Refused (NoSnapshot n))) (Err (Refused f))
-          yes (NoSnapshot name) w = ap (λ (m : List ℕ). Err (Refused (NoSnapshot m))) (sym w.0)
-          yes (BadFileName at) w =
-              absurd (no_first at s.order none (on (λ s. IsFirstBad at s.order) w))
-          yes (BadWords text) w = absurd w
-          yes (NotBuilt word) w = absurd w
-          yes (BadManifest path) w = absurd w
-          yes (BadConfig text) w = absurd w
-          yes (Taken name path) w = absurd w
-
-      pub bad_key_leads : (at : ℕ) → IsFirstBad at s.order
-          → Leads work (Err (Refused (BadFileName at)))
-      bad_key_leads at bad =
-          by_answer _ _ _ (λ order w. absurd (not_walked s at (on CanBeWalked w.2) bad)) yes
-        where
-          yes : (f : Refusal) → Walks n held (Err f)
-              → ◌≡◌ {A = End} (Err (Refused (BadFileName at))) (Err (Refused f))
-          yes (NoSnapshot name) w =
-              absurd (no_first at s.order (on (λ s. s.order ≡ []) w.1) bad)
-          yes (BadFileName other) w =
-              ap (λ (m : ℕ). Err (Refused (BadFileName m)))
-              (one_first s.order at other bad (on (λ s. IsFirstBad other s.order) w))
-          yes (BadWords text) w = absurd w
-          yes (NotBuilt word) w = absurd w
-          yes (BadManifest path) w = absurd w
-          yes (BadConfig text) w = absurd w
-          yes (Taken name path) w = absurd w
-
-  -- the work on a node whose bucket isn't open yet, and what follows it
-  abbrev pub node_work : Plan (Type 0) (Unit {0})
-  node_work = then (said_as word (node_plan node_config n a.nodes.snaps a.store.content)) ending
-
-  pub node_leads : (r : End) → Leads (work (snap_at a.nodes.snaps node_config n) a.store.content) r
-      → Leads node_work r
+  -- the bucket and the snapshot are opened first
+  pub node_leads : (r : End) → Leads (snapshot_plan n mode a b node_config) r
+      → Leads (node_plan n mode a b node_config) r
   node_leads r leads =
-      by_answer _ _ _ (λ x h.
-      by_answer _ _ _ (λ y g. leads) (λ f g. absurd g)) (λ f h. absurd h)
+      by_answer _ _ _ (λ x h. by_answer _ _ _ (λ y g. leads) (λ f g. absurd g)) (λ f h. absurd h)

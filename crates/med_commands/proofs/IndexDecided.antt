@@ -1,11 +1,11 @@
 -- What is told of the content leads a rebuild of the index to one end.
-use Rattle.std.proofs.Common.{◌≡◌, ◌≢◌, ◌⊎◌, ℕ, Bool, true, false, cond, zero, suc, List, [], ◌∷◌, ◌++◌, map, Contains, Option, Some, None, IfSome, Result, Ok, Err, MatchResult, refl, sym, ◌∙◌, ap, subst, inl, inr, arith, bytes_eq}
+use Rattle.std.proofs.Common.{◌≡◌, ◌≢◌, ◌⊎◌, ℕ, Bool, true, false, cond, zero, suc, List, [], ◌∷◌, ◌++◌, Contains, Option, Some, None, Ok, Err, refl, sym, ◌∙◌, ap, subst, inl, inr, arith, bytes_eq}
 use Rattle.std.specs.Cmp.Lexicographic.{nat_list_cmp_total}
 use Rattle.std.specs.FinMap as fin
-use Rattle.std.specs.List.{AllByRecursion, list_any}
+use Rattle.std.specs.List.{AllByRecursion}
 use Rattle.std.specs.List.Sorted.{IsStrictlySortedBy}
 use Rattle.std.specs.declared.cmp.Ordering.TheVariants.{Less}
-use Rattle.std.proofs.lemmas.List.Elements.{All-from_recursion, All-contains, All-contains_itself, recursion_from_All}
+use Rattle.std.proofs.lemmas.List.Elements.{All-from_recursion, All-contains}
 use Rattle.std.proofs.lemmas.Map.Keys.{sorted_head, sorted_tail}
 use Rattle.med_base.specs.declared.layout.MetaKind.TheVariants as meta_kind
 use Rattle.med_base.specs.Classify.{kind_of}
@@ -14,10 +14,10 @@ use Rattle.med_base.specs.Effects.{Effect, applied}
 use Rattle.med_base.specs.Kinds.{Kind, Meta}
 use Rattle.med_base.specs.NameOrder.{name_cmp}
 use Rattle.med_base.proofs.Lists.{all_split, all_with}
-use Rattle.med_backup.specs.Copies.{ChangeLists, IsNothing}
-use Rattle.med_backup.specs.NodeConfig.{NodeConfig, opened_at}
-use Rattle.med_backup.specs.Plan.{Passed}
-use Rattle.med_index.specs.Rebuilt.{AreOfIndex, IsFirstBad, IsOfIndex}
+use Rattle.med_commands.specs.Changes.{ChangeLists, IsNothing}
+use Rattle.med_commands.specs.NodeConfig.{NodeConfig, opened_at}
+use Rattle.med_plan.specs.Ends.{Passed}
+use Rattle.med_index.specs.Rebuilt.{AreOfIndex, IsOfIndex}
 use Rattle.med_index.specs.Rows.{AreNodes, HasBackup}
 use Rattle.med_manifest.specs.Listed.{paths_of}
 use Rattle.med_manifest.specs.Mend.{is_manifest_outside, name_in}
@@ -27,11 +27,13 @@ use Rattle.med_manifest.proofs.Elsewhere.{applied_append}
 use Rattle.med_manifest.proofs.Gets.{from_same, same_path}
 use Rattle.med_manifest.proofs.Members.{IsListed, all_listed, get_kept}
 use Rattle.med_manifest.proofs.Newest.{and_first}
-use Rattle.med_outside.specs.Ends.{Storage, on, Refusal, BadWords, NotBuilt, BadConfig, Taken, NoSnapshot, BadFileName, BadManifest, Refused, Plan, step, then, said_as, Leads}
+use Rattle.med_outside.specs.Device.{Storage, on}
+use Rattle.med_plan.specs.Ends.{Refusal, BadManifest, Refused, Plan, step, then, said_as, Leads}
 use Rattle.med_outside.specs.World.{World}
 use Rattle.med_commands.specs.Headline.{End}
-use Rattle.med_commands.specs.Indexed.{FindsNodes, Rebuilds, Rebuilt, all_of, nodes_plan, rebuilds_plan}
-use Rattle.med_commands.specs.Plans.{IsIndexed, IsLeft, prints}
+use Rattle.med_commands.specs.Indexed.{Rebuilds, Rebuilt, all_of, nodes_plan, rebuilds_plan}
+use Rattle.med_commands.specs.Plans.{IsIndexed}
+use Rattle.med_commands.specs.Steps.{IsLeft, prints}
 use Rattle.med_commands.specs.Report.{index_lines}
 use Rattle.med_commands.proofs.DecidedWork.{by_answer}
 use Rattle.med_commands.proofs.IndexFacts.{all_nodes, stays}
@@ -213,12 +215,7 @@ module _ (before : List ℕ) (c : Content) (word : ChangeLists → Type 0)
       → (e : Refusal) → Rebuilds before f (Some (now_at done)) (Err e) → r ≡ Err (Refused e)
   no_refusal r done f read (BadManifest path) h =
       absurd (none_first before f (now_at done) path read h.1.first)
-  no_refusal r done f read (NoSnapshot name) h = absurd h
-  no_refusal r done f read (BadFileName at) h = absurd h
-  no_refusal r done f read (BadWords text) h = absurd h
-  no_refusal r done f read (NotBuilt name) h = absurd h
-  no_refusal r done f read (BadConfig text) h = absurd h
-  no_refusal r done f read (Taken name path) h = absurd h
+  no_refusal r done f read e h = absurd h
 
   -- the manifests of all nodes read: the end decides
   read_leads : (r : End) → ((rows : List Rebuilt) → Leads (ending rows) r) → (done : List Rebuilt)
@@ -257,12 +254,7 @@ module _ (before : List ℕ) (c : Content) (word : ChangeLists → Type 0)
         yes (BadManifest other) h =
             ap (λ (p : List ℕ). Err (Refused (BadManifest p)))
             (one_first before f (now_at done) path other first h.1.first)
-        yes (NoSnapshot name) h = absurd h
-        yes (BadFileName at) h = absurd h
-        yes (BadWords text) h = absurd h
-        yes (NotBuilt name) h = absurd h
-        yes (BadConfig text) h = absurd h
-        yes (Taken name other) h = absurd h
+        yes f h = absurd h
 
     unread_leads : (done : List Rebuilt) (fs : List (List ℕ))
         → IsFirstUnread before (now_at done) f [] path → IsStrictlySortedBy name_cmp fs

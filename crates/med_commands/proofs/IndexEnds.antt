@@ -1,16 +1,16 @@
 -- How the command `build-index` ends, out of its parts.
-use Rattle.std.proofs.Common.{◌≡◌, ◌≤◌, ℕ, List, [], ◌∷◌, ◌++◌, Option, IfSome, Result, Ok, Err, OnOk, OnErr, inl, inr, refl, sym, ◌∙◌, ap, subst}
-use Rattle.med_base.specs.Effects.{Effect, after_all}
-use Rattle.med_backup.specs.Copies.{ChangeLists, IsNothing, IsMadeBy}
-use Rattle.med_backup.specs.NodeConfig.{NodeConfig, node_config_of, opened_at}
-use Rattle.med_backup.specs.Plan.{Passed}
-use Rattle.med_backup.proofs.Made.{made_later}
-use Rattle.med_backup.proofs.NodeSteps.{same_content}
+use Rattle.std.proofs.Common.{◌≡◌, ◌≤◌, ℕ, List, [], Result, Ok, Err, OnOk, OnErr, inl, inr, refl, sym, subst}
+use Rattle.med_commands.specs.Changes.{ChangeLists, IsMadeBy}
+use Rattle.med_commands.specs.NodeConfig.{NodeConfig, node_config_of, opened_at}
+use Rattle.med_plan.specs.Ends.{Passed}
+use Rattle.med_commands.proofs.Made.{made_later}
+use Rattle.med_commands.proofs.Made.{same_content}
 use Rattle.med_ini.specs.declared.config.Config.{Config}
-use Rattle.med_outside.specs.Ends.{Device, Files, Nodes, Storage, Output, Memory, on, Stop, Failed, Plan, IsAmong, Steps, Ends, then, said_as, seen}
+use Rattle.med_outside.specs.Device.{Device, Files, Nodes, Storage, Output, Memory, on}
+use Rattle.med_plan.specs.Ends.{Stop, Failed, Plan, IsAmong, Steps, Ends, then, said_as, seen}
 use Rattle.med_outside.specs.State.{State, ChangesWithin, History}
 use Rattle.med_outside.specs.World.{World, rose_of, rose_of_output}
-use Rattle.med_outside.proofs.EndsLemmas.{carried, carried_as, goes_on, stops_all}
+use Rattle.med_plan.proofs.EndsLemmas.{carried, carried_as, goes_on, stops_all}
 use Rattle.med_outside.proofs.Passing.{moves_on}
 use Rattle.med_words.specs.Request.{Asked}
 use Rattle.med_words.specs.Tables.{Action, build_index}
@@ -18,7 +18,8 @@ use Rattle.med_commands.specs.Fault.{stop_of}
 use Rattle.med_commands.specs.Headline.{End, says}
 use Rattle.med_commands.specs.Indexed.{Rebuilt, all_of, AreRebuilt, FindsNodes, rebuilds_plan, nodes_plan, rose_of_store, HasRebuilt, HasRebuiltAll}
 use Rattle.med_commands.specs.Loaded.{IsConfigured}
-use Rattle.med_commands.specs.Plans.{IsIndexed, IsLeft, prints, index_plan, action_plan, plan_of}
+use Rattle.med_commands.specs.Plans.{IsIndexed, index_plan, action_plan, plan_of}
+use Rattle.med_commands.specs.Steps.{IsLeft, prints}
 use Rattle.med_commands.specs.Printed.{Wrote, WrotePart}
 use Rattle.med_commands.specs.Report.{index_lines}
 use Rattle.med_commands.specs.declared.fault.Fault.{Fault}

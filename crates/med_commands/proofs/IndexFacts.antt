@@ -1,10 +1,8 @@
 -- What the rebuilds of nodes leave of a content.
-use Rattle.std.proofs.Common.{◌≡◌, ◌≢◌, ◌⊎◌, ℕ, List, [], ◌∷◌, ◌++◌, map, Contains, Option, Some, None, IfSome, refl, sym, ◌∙◌, ap, subst, inl, inr}
+use Rattle.std.proofs.Common.{◌≡◌, ◌≢◌, ◌⊎◌, ℕ, List, [], ◌∷◌, ◌++◌, Contains, Option, Some, None, IfSome, refl, sym, ◌∙◌, ap, subst, inl, inr}
 use Rattle.std.specs.FinMap.{get}
 use Rattle.std.specs.List.{AllByRecursion}
 use Rattle.std.proofs.lemmas.List.Elements.{All-from_recursion, All-contains, All-contains_itself, recursion_from_All}
-use Rattle.med_base.specs.declared.kinds.IndexKind.{IndexKind}
-use Rattle.med_base.specs.declared.kinds.LatestKind.{LatestKind}
 use Rattle.med_base.specs.declared.layout.MetaKind.{MetaKind}
 use Rattle.med_base.specs.declared.layout.MetaKind.TheVariants as meta_kind
 use Rattle.med_base.specs.Classify.{kind_of}
@@ -16,16 +14,15 @@ use Rattle.med_base.proofs.Lists.{all_with}
 use Rattle.med_index.specs.Rebuilt.{AreOfIndex, IsOfIndex}
 use Rattle.med_index.specs.Rows.{AreNodes, HasBackup}
 use Rattle.med_manifest.specs.Index.{IsIndexExact, bytes_in}
-use Rattle.med_manifest.specs.Mend.{changes_of_mend}
 use Rattle.med_manifest.specs.Rebuild.{IsRebuildOf}
-use Rattle.med_manifest.proofs.ByKind.{FinishedByKind, HasPath, NodeByKind, at, folder, manifest, node_by_kind, under}
+use Rattle.med_manifest.proofs.ByKind.{HasPath, NodeByKind, at, folder, node_by_kind, under}
 use Rattle.med_manifest.proofs.Elsewhere.{AreElsewhere, applied_append, get_elsewhere}
 use Rattle.med_manifest.proofs.Exacts.{given_same, manifests_by_name, mend_same}
 use Rattle.med_manifest.proofs.Gets.{same_path}
 use Rattle.med_manifest.proofs.IndexByKind.{ExactByKind}
 use Rattle.med_manifest.proofs.IndexJoined.{exact_kind, kind_exact, reaches_exact}
 use Rattle.med_commands.specs.Indexed.{Rebuilt, all_of, AreIndexed, AreRebuilt, nodes_of}
-use Rattle.med_commands.specs.Plans.{IfTold}
+use Rattle.med_commands.specs.Steps.{IfTold}
 use Rattle.med_commands.proofs.IndexSteps.{flat_push}
 
 -- ---- changes of the index of one node

@@ -3,25 +3,25 @@ use Rattle.std.proofs.Common.{◌≡◌, ◌⊎◌, ◌≤◌, ℕ, List, [], �
 use Rattle.std.proofs.lemmas.Option.{IfSome_then}
 use Rattle.med_base.specs.Content.{Content}
 use Rattle.med_base.specs.Effects.{Effect, after_all}
-use Rattle.med_backup.specs.Copies.{ChangeLists, IsNothing, FollowedBy, IsMadeBy}
-use Rattle.med_backup.proofs.Made.{made_on}
-use Rattle.med_index.specs.Rebuilt.{AreOfIndex, IsFirstBad, IsRebuild, stores, removals}
+use Rattle.med_commands.specs.Changes.{ChangeLists, IsNothing, FollowedBy, IsMadeBy}
+use Rattle.med_commands.proofs.Made.{made_on}
+use Rattle.med_index.specs.Rebuilt.{AreOfIndex, IsRebuild, stores, removals}
 use Rattle.med_manifest.specs.Rebuild.{IsRebuildOf}
 use Rattle.med_index.specs.declared.report.IndexReport.{IndexReport}
 use Rattle.med_index.specs.declared.errors.IndexError.{IndexError}
 use Rattle.med_index.specs.declared.errors.IndexError.TheVariants as index
-use Rattle.med_manifest.specs.declared.why.ManifestWhy.{ManifestWhy}
 use Rattle.med_outside.specs.Causes.{RoseOrFull}
-use Rattle.med_outside.specs.Ends.{Device, Files, Nodes, Storage, Output, Memory, on, Stop, Failed, Plan, IsAmong, Ends, then, said_as}
-use Rattle.med_outside.specs.Makes.{Last, Sure, tried, took, IsError, Makes}
+use Rattle.med_outside.specs.Device.{Device, Files, Nodes, Storage, Output, Memory, on}
+use Rattle.med_plan.specs.Ends.{Stop, Failed, IsAmong, Ends, said_as}
+use Rattle.med_outside.specs.Makes.{Last, tried, took, IsError, Makes}
 use Rattle.med_outside.specs.State.{State, ChangesWithin, History}
 use Rattle.med_outside.specs.declared.trace.Trace.{Trace}
-use Rattle.med_outside.proofs.EndsLemmas.{carried_as, stops_all}
+use Rattle.med_plan.proofs.EndsLemmas.{carried_as, stops_all}
 use Rattle.med_outside.proofs.Moments.{effects_front}
 use Rattle.med_outside.proofs.Passing.{moves_on}
 use Rattle.med_commands.specs.Fault.{stop_of, fault_of_rebuild}
 use Rattle.med_commands.specs.Indexed.{IsList, IsFirstOf, Rebuilt, all_of, Rebuilds, rebuild_plan, rebuilds_plan, rose_of_store, AreRebuilt, nodes_of, HasRebuilt, HasRebuiltOne}
-use Rattle.med_commands.specs.Report.{index_line, index_lines}
+use Rattle.med_commands.specs.Report.{index_line}
 
 -- ---- lists
 

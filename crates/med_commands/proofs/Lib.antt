@@ -1,3 +1,4 @@
+pub mod BackupEnds
 pub mod BackupSteps
 pub mod DecidedLemmas
 pub mod DecidedTexts
@@ -6,5 +7,6 @@ pub mod IndexDecided
 pub mod IndexEnds
 pub mod IndexFacts
 pub mod IndexSteps
+pub mod Made
 pub mod OneNodeConfig
 pub mod Printing

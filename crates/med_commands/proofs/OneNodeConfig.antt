@@ -10,7 +10,7 @@ use Rattle.med_ini.proofs.OneFault.{fault_none}
 use Rattle.med_ini.proofs.OneReading.{one_reading_of}
 use Rattle.med_words.specs.Request.{Asked}
 use Rattle.med_commands.specs.Loaded.{AreOverrides, IsConfigFile, Gives, IsConfigured, IsRefusedFor, IsRefused, no_file, no_ini, bad_option}
-use Rattle.med_backup.specs.NodeConfig.{NodeConfig, node_config_of}
+use Rattle.med_commands.specs.NodeConfig.{NodeConfig, node_config_of}
 use Rattle.med_outside.specs.World.{FileContents}
 
 -- ---- the texts of a file depend on its entries and on the bytes of the overrides

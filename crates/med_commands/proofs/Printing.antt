@@ -95,3 +95,10 @@ pub line_said : (number kind : List ℕ)
     ≡ complaint (codes "config: line " ++ (number ++ (codes ": " ++ kind)))
 line_said number kind = ap (λ t. codes "medusa: config: line " ++ t)
     (sym (append_assoc number (codes ": " ++ kind) (codes "\n")))
+
+-- the pieces that tell of a token that stands twice are its text
+pub twice_said : (token : List ℕ)
+    → codes "medusa: ring: token " ++ (token ++ (codes " twice" ++ codes "\n"))
+    ≡ complaint (codes "ring: token " ++ (token ++ codes " twice"))
+twice_said token = ap (λ t. codes "medusa: ring: token " ++ t)
+    (sym (append_assoc token (codes " twice") (codes "\n")))

@@ -5,16 +5,21 @@ use Rattle.std.specs.declared.cmp.Ordering.TheVariants.{Less}
 use Rattle.med_base.specs.Content.{Content, objects_under}
 use Rattle.med_base.specs.Layout.{backup_folder}
 use Rattle.med_base.specs.NameOrder.{name_cmp}
-use Rattle.med_backup.specs.NodeConfig.{NodeConfig, node_config_of, snap_at}
-use Rattle.med_backup.specs.Taken.{first_path}
+use Rattle.med_commands.specs.NodeConfig.{NodeConfig, node_config_of, snap_at}
+use Rattle.med_commands.specs.Taken.{first_path}
 use Rattle.med_backup.specs.Walked.{CanBeWalked, IsFirstBad}
 use Rattle.med_index.specs.Rows.{HasBackup}
 use Rattle.med_ini.specs.declared.config.Config.{Config}
 use Rattle.med_manifest.specs.Reads.{DoAllRead, IsFirstUnread}
-use Rattle.med_outside.specs.Ends.{BadWords, NotBuilt, BadConfig, Taken, NoSnapshot, BadFileName, BadManifest, Stop, Refused, Leads}
+use Rattle.med_backup.specs.Backups.{HasHost}
+use Rattle.med_plan.specs.Ends.{BadWords, NotBuilt, BadConfig, Taken, NoSnapshot, BadFileName, BadRing, NotInRing, BadManifest, Stop, Refused, Leads}
 use Rattle.med_outside.specs.Snapshot.{Snapshot}
 use Rattle.med_outside.specs.World.{World}
-use Rattle.med_outside.specs.declared.mode.Mode.TheVariants.{Full}
+use Rattle.med_outside.specs.declared.mode.Mode.{Mode}
+use Rattle.med_ring.specs.declared.error.RingWhy.{RingWhy}
+use Rattle.med_ring.specs.Blames.{IsRefused as IsNoRing}
+use Rattle.med_ring.specs.Host.{RingHost}
+use Rattle.med_ring.specs.Ring.{IsRing}
 use Rattle.med_words.specs.Blames.{BlamesWords}
 use Rattle.med_words.specs.Request.{Asked, IsRequest}
 use Rattle.med_words.specs.Tables.{Action, backup, build_index, word_of}
@@ -22,20 +27,21 @@ use Rattle.med_words.specs.declared.request.Usage.{Usage}
 use Rattle.med_words.specs.declared.request.WordsError.TheVariants as words_error
 use Rattle.med_commands.specs.Loaded.{IsConfigured, IsRefused}
 use Rattle.med_commands.specs.Plans.{plan_of, words_plan}
-use Rattle.med_commands.specs.Texts.{usage_text}
+use Rattle.med_commands.specs.Texts.{ring_why_text, usage_text}
 
 -- ---- what is told
 
--- the commands that are built: the full backup of a node, and the rebuild of the index
+-- the commands that are built: the backup of a node, and the rebuild of the index
 abbrev pub is_built : Action → Bool
-is_built (backup n Full) = true
+is_built (backup n mode) = true
 is_built build_index = true
 is_built action = false
 
--- a full backup of this name is asked for, and the files tell of the config file: what its bytes
--- are, or that there is none
+-- a backup of this name is asked for, and the files tell of the config file: what its bytes are, or
+-- that there is none
 pub record IsAskedBackup (asked : Asked) (a : World) (n : List ℕ) : Type 0 where
-  pub action : asked.action ≡ backup n Full
+  pub mode : Mode
+  pub action : asked.action ≡ backup n mode
   pub file : Option (List ℕ)
   pub file_is : a.files.contents asked.config_file ≡ Some file
 
@@ -49,6 +55,13 @@ pub record IsAskedOver (asked : Asked) (a : World) (node_config : NodeConfig) (n
   pub node_config_is : node_config ≡ node_config_of config
   pub snapshot_is : snap_at a.nodes.snaps node_config n ≡ Some s
 
+-- the snapshot has keys that are names of files, and a token map that has the node f
+pub record CanBeBackedUp (f : List ℕ) (s : Snapshot) : Type 0 where
+  pub walked : CanBeWalked s
+  pub hosts : List RingHost
+  pub reads : IsRing s.ring hosts
+  pub among : HasHost hosts f
+
 -- a rebuild of the index is asked for, and the files tell of a config file that gives this
 -- configuration
 pub record IsAskedIndex (asked : Asked) (a : World) (node_config : NodeConfig) : Type 0 where
@@ -59,14 +72,15 @@ pub record IsAskedIndex (asked : Asked) (a : World) (node_config : NodeConfig) :
   pub configured : IsConfigured a.files.contents asked config
   pub node_config_is : node_config ≡ node_config_of config
 
--- ---- how a full backup ends
+-- ---- how a backup ends, in either mode
 
--- the snapshot has keys that are names of files, and no object lies under the folder of the name:
--- the command ends well
+-- the snapshot can be backed up, and no object lies under the folder of the name: the command ends
+-- well
 abbrev pub FreeIsDone : World → World → Type 0
 FreeIsDone a b =
     (asked : Asked) (node_config : NodeConfig) (n : List ℕ) (s : Snapshot) (c : Content)
-    → IsAskedOver asked a node_config n s → CanBeWalked s → a.store.content ≡ Some c
+    → IsAskedOver asked a node_config n s → CanBeBackedUp node_config.node s
+    → a.store.content ≡ Some c
     → objects_under (backup_folder node_config.before node_config.node n) c ≡ []
     → Leads (plan_of asked a b) (Ok tt)
 
@@ -75,7 +89,8 @@ abbrev pub TakenIsRefused : World → World → Type 0
 TakenIsRefused a b =
     (asked : Asked) (node_config : NodeConfig) (n : List ℕ) (s : Snapshot) (c : Content)
     (path : List ℕ)
-    → IsAskedOver asked a node_config n s → CanBeWalked s → a.store.content ≡ Some c
+    → IsAskedOver asked a node_config n s → CanBeBackedUp node_config.node s
+    → a.store.content ≡ Some c
     → first_path (objects_under (backup_folder node_config.before node_config.node n) c) ≡ Some path
     → Leads (plan_of asked a b) (Err (Refused (Taken n path)))
 
@@ -91,6 +106,21 @@ BadKeyIsRefused a b =
     (asked : Asked) (node_config : NodeConfig) (n : List ℕ) (s : Snapshot) (at : ℕ)
     → IsAskedOver asked a node_config n s → IsFirstBad at s.order
     → Leads (plan_of asked a b) (Err (Refused (BadFileName at)))
+
+-- the keys are names of files, and the token map doesn't read, for this cause
+abbrev pub BadRingIsRefused : World → World → Type 0
+BadRingIsRefused a b =
+    (asked : Asked) (node_config : NodeConfig) (n : List ℕ) (s : Snapshot) (why : RingWhy)
+    → IsAskedOver asked a node_config n s → CanBeWalked s → IsNoRing s.ring why
+    → Leads (plan_of asked a b) (Err (Refused (BadRing (ring_why_text why))))
+
+-- the keys are names of files, and the token map has no host of the node's name
+abbrev pub LackIsRefused : World → World → Type 0
+LackIsRefused a b =
+    (asked : Asked) (node_config : NodeConfig) (n : List ℕ) (s : Snapshot) (hosts : List RingHost)
+    → IsAskedOver asked a node_config n s → CanBeWalked s → IsRing s.ring hosts
+    → (HasHost hosts node_config.node → ⊥)
+    → Leads (plan_of asked a b) (Err (Refused (NotInRing node_config.node)))
 
 -- ---- how a rebuild of the index ends
 
@@ -148,6 +178,8 @@ pub record IsDecided (a b : World) : Type 0 where
   pub taken : TakenIsRefused a b
   pub no_snapshot : EmptyIsRefused a b
   pub bad_file_name : BadKeyIsRefused a b
+  pub bad_ring : BadRingIsRefused a b
+  pub not_in_ring : LackIsRefused a b
   pub all_read : AllReadIsDone a b
   pub bad_manifest : UnreadIsRefused a b
   pub no_config : BadConfigIsRefused a b

@@ -1,10 +1,11 @@
 -- What the top call promises: the command ended as its plan has it, with the status of that end.
 use Rattle.std.specs.Prelude.{◌≡◌, ◌≤◌, ℕ, List, Result, Ok, Err, codes}
-use Rattle.med_outside.specs.Ends.{Device, Files, Nodes, Storage, Output, Memory, Refusal, BadWords, NotBuilt, BadConfig, Taken, NoSnapshot, BadFileName, BadManifest, Stop, Refused, Failed, Plan, Ends, IsExact}
+use Rattle.med_outside.specs.Device.{Device, Files, Nodes, Storage, Output, Memory}
+use Rattle.med_plan.specs.Ends.{Refusal, BadWords, NotBuilt, BadConfig, Taken, NoSnapshot, BadFileName, BadRing, NotInRing, Running, BadManifest, Stop, Refused, Failed, Plan, Ends, IsExact}
 use Rattle.med_outside.specs.World.{World, SinkState, rose_of, IsLater}
 use Rattle.med_commands.specs.Printed.{Complains}
 use Rattle.med_commands.specs.Status.{code}
-use Rattle.med_commands.specs.Texts.{not_built_text, taken_text, no_snapshot_text, bad_file_text, bad_manifest_text}
+use Rattle.med_commands.specs.Texts.{not_built_text, taken_text, no_snapshot_text, bad_file_text, bad_manifest_text, not_in_ring_text, running_text}
 use Rattle.med_commands.specs.declared.status.Status.{Status}
 use Rattle.med_commands.specs.declared.status.Status.TheVariants as status
 
@@ -17,6 +18,9 @@ status_of_refusal (BadConfig text) = status.Config
 status_of_refusal (Taken name path) = status.Taken
 status_of_refusal (NoSnapshot name) = status.BadSnapshot
 status_of_refusal (BadFileName at) = status.BadSnapshot
+status_of_refusal (BadRing text) = status.BadRing
+status_of_refusal (NotInRing host) = status.BadRing
+status_of_refusal (Running name) = status.Running
 status_of_refusal (BadManifest path) = status.BadManifest
 
 abbrev pub text_of_refusal : Refusal → List ℕ
@@ -26,6 +30,9 @@ text_of_refusal (BadConfig text) = text
 text_of_refusal (Taken name path) = taken_text name path
 text_of_refusal (NoSnapshot name) = no_snapshot_text name
 text_of_refusal (BadFileName at) = bad_file_text at
+text_of_refusal (BadRing text) = text
+text_of_refusal (NotInRing host) = not_in_ring_text host
+text_of_refusal (Running name) = running_text name
 text_of_refusal (BadManifest path) = bad_manifest_text path
 
 abbrev pub status_of_device : Device → Status

@@ -6,15 +6,16 @@ use Rattle.med_base.specs.Classify.{kind_of}
 use Rattle.med_base.specs.Content.{Content}
 use Rattle.med_base.specs.Effects.{Effect, after_all}
 use Rattle.med_base.specs.NameOrder.{name_cmp}
-use Rattle.med_backup.specs.Copies.{ChangeLists, IsNothing, FollowedBy}
-use Rattle.med_backup.specs.Plan.{Passed}
+use Rattle.med_commands.specs.Changes.{ChangeLists, IsNothing, FollowedBy}
+use Rattle.med_plan.specs.Ends.{Passed}
 use Rattle.med_index.specs.Rebuilt.{AreOfIndex, IsFirstBad, IsOfIndex, stores, removals}
 use Rattle.med_index.specs.Rows.{AreNodes, HasBackup}
 use Rattle.med_manifest.specs.Index.{IsIndexExact}
 use Rattle.med_manifest.specs.Rebuild.{IsRebuildOf}
 use Rattle.med_manifest.specs.declared.why.ManifestWhy.{ManifestWhy}
 use Rattle.med_outside.specs.Causes.{RoseOrFull}
-use Rattle.med_outside.specs.Ends.{Device, Files, Nodes, Storage, Output, Memory, on, Refusal, BadManifest, Plan, last, step, then, said_as}
+use Rattle.med_outside.specs.Device.{Device, Files, Nodes, Storage, Output, Memory, on}
+use Rattle.med_plan.specs.Ends.{Refusal, BadManifest, Plan, last, step, then, said_as}
 use Rattle.med_outside.specs.State.{State, ChangesWithin, History}
 use Rattle.med_commands.specs.Report.{index_line, index_lines}
 

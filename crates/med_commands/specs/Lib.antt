@@ -1,10 +1,15 @@
+pub mod Backups
+pub mod Changes
 pub mod Decided
 pub mod Fault
 pub mod Headline
 pub mod Indexed
 pub mod Loaded
+pub mod NodeConfig
 pub mod Plans
 pub mod Printed
 pub mod Report
 pub mod Status
+pub mod Steps
+pub mod Taken
 pub mod Texts

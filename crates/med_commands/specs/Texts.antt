@@ -1,9 +1,12 @@
 -- The texts of refusals.
-use Rattle.std.specs.Prelude.{ℕ, List, ◌++◌, codes, decimal}
-use Rattle.med_backup.specs.NodeConfig.{tag_of}
+use Rattle.std.specs.Prelude.{ℕ, List, ◌++◌, codes, decimal, string_bytes}
+use Rattle.std.specs.Fmt.{signed_decimal}
+use Rattle.med_commands.specs.NodeConfig.{tag_of}
 use Rattle.med_ini.specs.Options.{Fault, missing, bad_number, bad_name, unsupported}
 use Rattle.med_ini.specs.Texts.{kind_text}
 use Rattle.med_ini.specs.declared.errors.IniKind.{IniKind}
+use Rattle.med_ring.specs.declared.error.RingWhy.{RingWhy}
+use Rattle.med_ring.specs.declared.error.RingWhy.TheVariants.{NotJson, NotRing, TokenRange, TokenTwice}
 use Rattle.med_words.specs.declared.request.Usage.{Usage}
 use Rattle.med_words.specs.declared.request.Usage.TheVariants as usage
 
@@ -43,3 +46,16 @@ bad_file_text at = codes "bad file name at " ++ decimal at
 
 abbrev pub bad_manifest_text : List ℕ → List ℕ
 bad_manifest_text path = codes "bad manifest " ++ path
+
+-- why the token map of a snapshot can't be read
+abbrev pub ring_why_text : RingWhy → List ℕ
+ring_why_text NotJson = codes "ring: not json"
+ring_why_text (NotRing host) = codes "ring: bad host " ++ string_bytes host
+ring_why_text (TokenRange host) = codes "ring: token out of range of " ++ string_bytes host
+ring_why_text (TokenTwice token) = codes "ring: token " ++ (signed_decimal token ++ codes " twice")
+
+abbrev pub not_in_ring_text : List ℕ → List ℕ
+not_in_ring_text host = codes "ring: no host " ++ host
+
+abbrev pub running_text : List ℕ → List ℕ
+running_text name = codes "running " ++ name

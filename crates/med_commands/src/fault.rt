@@ -2,9 +2,10 @@
 ghost use Rattle.std.specs.Prelude.{◌≡◌, ◌≤◌, OnErr};
 ghost use Rattle.med_outside.specs.Causes.{RoseOrFull};
 ghost use Rattle.med_commands.specs.Fault.{fault_text, fault_for, fault_of_rebuild, status_of_fault};
-ghost use Rattle.med_commands.specs.Texts.{usage_text, taken_text, no_snapshot_text, bad_file_text};
+ghost use Rattle.med_commands.specs.Texts.{usage_text, taken_text, no_snapshot_text, bad_file_text, ring_why_text};
 ghost use Rattle.med_commands.specs.Printed.{Prints, Complains, complaint};
 ghost use Rattle.med_commands.specs.declared.fault.Fault.TheVariants.{Config};
+ghost use Rattle.med_ring.specs.declared.error.RingWhy.TheVariants.{TokenTwice};
 
 use crate::Status;
 use crate::load::LoadError;
@@ -12,13 +13,14 @@ use crate::print::{say, say_named, write_pieces};
 use crate::print_config::say_config;
 use itoa::Buffer;
 use med_backup::BackupError;
-use med_base::{BackupName, ObjPath};
+use med_base::{BackupName, Fqdn, ObjPath};
 use med_index::IndexError;
 use med_outside::{CopyFault, Sink, SinkFailed};
+use med_ring::RingWhy;
 use med_words::Usage;
 
 /// Why a command ended without its work or its text.
-#[derive(Debug, Drop)]
+#[derive(Drop)]
 pub(crate) enum Fault {
     Usage(Usage),
     NotBuilt { word: &'static str },
@@ -27,6 +29,11 @@ pub(crate) enum Fault {
     Taken { name: BackupName, path: ObjPath },
     NoSnapshot { name: BackupName },
     BadFileName { at: usize },
+    /// The snapshot's token map can't be read.
+    BadRing(RingWhy),
+    /// The snapshot's token map has no host of the node's name.
+    NotInRing { host: Fqdn },
+    Running { name: BackupName },
     BadManifest { path: ObjPath },
     /// The count of faults of the nodes or of a snapshot rose.
     Nodes,
@@ -44,6 +51,9 @@ pub(crate) fn fault_of(name: BackupName, error: BackupError) -> Fault
     match error {
         BackupError::NoSnapshot => Fault::NoSnapshot { name },
         BackupError::BadFileName { at } => Fault::BadFileName { at },
+        BackupError::BadRing(why) => Fault::BadRing(why),
+        BackupError::NotInRing { host } => Fault::NotInRing { host },
+        BackupError::Running { name } => Fault::Running { name },
         BackupError::Taken { path } => Fault::Taken { name, path },
         BackupError::Fault(CopyFault::Snap) => Fault::Nodes,
         BackupError::Fault(CopyFault::Store) => Fault::Storage,
@@ -80,6 +90,8 @@ impl Fault {
             Fault::Config(error) => error.status(),
             Fault::Taken { name: _, path: _ } => Status::Taken,
             Fault::NoSnapshot { name: _ } | Fault::BadFileName { at: _ } => Status::BadSnapshot,
+            Fault::BadRing(_) | Fault::NotInRing { host: _ } => Status::BadRing,
+            Fault::Running { name: _ } => Status::Running,
             Fault::BadManifest { path: _ } => Status::BadManifest,
             Fault::Nodes => Status::ReadFault,
             Fault::Storage => Status::StorageFault,
@@ -153,6 +165,41 @@ fn say_bad_file<E: Sink>(err: &mut E, at: usize) -> Result<(), SinkFailed>
     )
 }
 
+fn say_token_twice<E: Sink>(err: &mut E, token: i64) -> Result<(), SinkFailed>
+    ensures text { Prints (complaint (ring_why_text (TokenTwice token)))
+        (E.state err.old).taken (E.state err.new).taken result }
+    ensures later { (E.state err.old).faults ≤ (E.state err.new).faults }
+    ensures failed { OnErr result (RoseOrFull (E.state err.old).faults (E.state err.new).faults) }
+{
+    let mut buffer = Buffer::new();
+    let number = buffer.format(token);
+    write_pieces(
+        err,
+        &[
+            b"medusa: ring: token ".as_slice(),
+            number.as_bytes(),
+            b" twice".as_slice(),
+            b"\n".as_slice(),
+        ],
+    )
+}
+
+fn say_ring<E: Sink>(err: &mut E, why: &RingWhy) -> Result<(), SinkFailed>
+    ensures text { Prints (complaint (ring_why_text why.now))
+        (E.state err.old).taken (E.state err.new).taken result }
+    ensures later { (E.state err.old).faults ≤ (E.state err.new).faults }
+    ensures failed { OnErr result (RoseOrFull (E.state err.old).faults (E.state err.new).faults) }
+{
+    match why {
+        RingWhy::NotJson => say(err, b"ring: not json"),
+        RingWhy::NotRing { host } => say_named(err, b"ring: bad host ", host.as_bytes()),
+        RingWhy::TokenRange { host } => {
+            say_named(err, b"ring: token out of range of ", host.as_bytes())
+        }
+        RingWhy::TokenTwice { token } => say_token_twice(err, *token),
+    }
+}
+
 fn say_fault<E: Sink>(err: &mut E, fault: &Fault) -> Result<(), SinkFailed>
     ensures text { Prints (complaint (fault_text fault.now))
         (E.state err.old).taken (E.state err.new).taken result }
@@ -166,6 +213,9 @@ fn say_fault<E: Sink>(err: &mut E, fault: &Fault) -> Result<(), SinkFailed>
         Fault::Taken { name, path } => say_taken(err, name.as_str(), path.as_str()),
         Fault::NoSnapshot { name } => say_no_snapshot(err, name.as_str()),
         Fault::BadFileName { at } => say_bad_file(err, *at),
+        Fault::BadRing(why) => say_ring(err, why),
+        Fault::NotInRing { host } => say_named(err, b"ring: no host ", host.as_str().as_bytes()),
+        Fault::Running { name } => say_named(err, b"running ", name.as_str().as_bytes()),
         Fault::BadManifest { path } => say_named(err, b"bad manifest ", path.as_str().as_bytes()),
         Fault::Nodes => say(err, b"read fault"),
         Fault::Storage => say(err, b"storage fault"),

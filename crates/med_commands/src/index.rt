@@ -1,8 +1,9 @@
 // The command `build-index`.
 ghost use Rattle.std.specs.Prelude.{◌≡◌, ◌≤◌, [], false, IfOk, IfErr, OnOk, OnErr, Err, string_bytes};
-ghost use Rattle.med_backup.specs.Copies.{IsMadeBy};
-ghost use Rattle.med_backup.specs.Plan.{Passed};
-ghost use Rattle.med_outside.specs.Ends.{Output, on, Ends, Steps, seen};
+ghost use Rattle.med_commands.specs.Changes.{IsMadeBy};
+ghost use Rattle.med_plan.specs.Ends.{Passed};
+ghost use Rattle.med_outside.specs.Device.{Output, on};
+ghost use Rattle.med_plan.specs.Ends.{Ends, Steps, seen};
 ghost use Rattle.med_outside.specs.State.{IsAtRest, IsReady};
 ghost use Rattle.med_outside.specs.World.{NodesState, world, rose_of, rose_of_output, IsLater};
 ghost use Rattle.med_words.specs.Views.{asked_of};

@@ -1,6 +1,6 @@
 // The top call.
 ghost use Rattle.std.specs.Prelude.{◌≡◌, ◌≤◌, map, string_bytes, codes};
-ghost use Rattle.med_outside.specs.Ends.{Ends, seen};
+ghost use Rattle.med_plan.specs.Ends.{Ends, seen};
 ghost use Rattle.med_outside.specs.State.{IsAtRest};
 ghost use Rattle.med_outside.specs.World.{world, rose_of, IsLater};
 ghost use Rattle.med_words.specs.Views.{asked_of};
@@ -15,7 +15,7 @@ use crate::Status;
 use crate::backup::back_up;
 use crate::fault::{Fault, tell};
 use crate::index::build_index;
-use med_outside::{Files, Mode, Nodes, Sink, Storage};
+use med_outside::{Files, Nodes, Sink, Storage};
 use med_words::{Command, Request, WordsError, read_words};
 use std::alloc::Global;
 
@@ -42,10 +42,9 @@ fn run<F: Files, S: Storage, N: Nodes, O: Sink>(
         (S.stood store.new) (O.state out.new)) }
 {
     match &request.command {
-        Command::Backup {
-            name,
-            mode: Mode::Full,
-        } => back_up(alloc, request, name, files, store, nodes, out),
+        Command::Backup { name, mode } => {
+            back_up(alloc, request, name, *mode, files, store, nodes, out)
+        }
         Command::BuildIndex => build_index(alloc, request, files, store, out),
         command => Err(Fault::NotBuilt {
             word: command.word(),

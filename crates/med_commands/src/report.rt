@@ -1,21 +1,11 @@
 // The line that a backup prints, and that of a node whose index was made anew.
-ghost use Rattle.std.specs.Prelude.{◌≡◌, ◌++◌, IfOk, OnOk, length, string_bytes};
-ghost use Rattle.med_commands.specs.Report.{report_head, report_tail, report_line, index_line, total_bytes};
+ghost use Rattle.std.specs.Prelude.{◌≡◌, ◌++◌, IfOk, OnOk, string_bytes};
+ghost use Rattle.med_commands.specs.Report.{report_head, report_tail, report_line, index_line};
 
+use med_backup::BackupReport;
 use med_base::{BackupName, Fqdn};
 use med_index::IndexReport;
-use med_manifest::FileRecord;
 use std::alloc::{AllocError, Global};
-
-fn bytes_of(files: &[FileRecord]) -> u64
-    ensures { result ≡ total_bytes files.now }
-{
-    let mut bytes: u64 = 0;
-    for file in files {
-        bytes = bytes.saturating_add(file.fingerprint.size);
-    }
-    bytes
-}
 
 fn head(alloc: Global, name: &BackupName, node: &Fqdn, files: u64) -> Result<String, AllocError>
     ensures { IfOk result (λ text. string_bytes text ≡ report_head name.now node.now files) }
@@ -25,25 +15,25 @@ fn head(alloc: Global, name: &BackupName, node: &Fqdn, files: u64) -> Result<Str
     format!(in alloc; "backup {name} of {node}: {files} files, ")
 }
 
-fn tail(alloc: Global, files: u64, bytes: u64) -> Result<String, AllocError>
-    ensures { IfOk result (λ text. string_bytes text ≡ report_tail files bytes) }
+fn tail(
+    alloc: Global,
+    bytes: u64,
+    reused: u64,
+    stored: u64,
+    aside: u64,
+) -> Result<String, AllocError>
+    ensures { IfOk result (λ text. string_bytes text ≡ report_tail bytes reused stored aside) }
 {
-    format!(in alloc; "{bytes} bytes, 0 reused, {files} stored, 0 aside\n")
+    format!(in alloc; "{bytes} bytes, {reused} reused, {stored} stored, {aside} aside\n")
 }
 
-/// The line of a backup of these files.
-pub(crate) fn line_of(
-    alloc: Global,
-    name: &BackupName,
-    node: &Fqdn,
-    files: &[FileRecord],
-) -> Result<String, AllocError>
-    ensures { IfOk result (λ line. string_bytes line ≡ report_line name.now node.now files.now) }
+/// The line of a backup that was made.
+pub(crate) fn line_of(alloc: Global, report: &BackupReport) -> Result<String, AllocError>
+    ensures { IfOk result (λ line. string_bytes line ≡ report_line report.now) }
 {
-    let count = files.len() as u64;
-    let bytes = bytes_of(files);
-    let mut line = head(alloc, name, node, count)?;
-    let end = tail(alloc, count, bytes)?;
+    let mut line = head(alloc, &report.name, &report.node, report.files)?;
+    let (reused, stored, aside) = (report.reused, report.stored, report.aside);
+    let end = tail(alloc, report.bytes, reused, stored, aside)?;
     line.push_str(end.as_str())?;
     Ok(line)
 }

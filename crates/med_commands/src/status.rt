@@ -21,8 +21,12 @@ pub enum Status {
     WriteFault,
     /// 11: the snapshot has no key, or a key with a part that is no component.
     BadSnapshot,
+    /// 12: the snapshot's token map can't be read, or lacks the node.
+    BadRing,
     /// 13: a manifest doesn't read, and nothing of its node changed.
     BadManifest,
+    /// 15: a backup of the name is being made.
+    Running,
     /// 20: there was no memory.
     Memory,
 }
@@ -41,7 +45,9 @@ impl Status {
             Status::StorageFault => 8,
             Status::WriteFault => 10,
             Status::BadSnapshot => 11,
+            Status::BadRing => 12,
             Status::BadManifest => 13,
+            Status::Running => 15,
             Status::Memory => 20,
         }
     }

@@ -1,6 +1,5 @@
 pub mod Answered
 pub mod Committing
-pub mod EndsLemmas
 pub mod Making
 pub mod Moments
 pub mod OpenPlaces

@@ -1,6 +1,6 @@
 pub mod Causes
 pub mod Counts
-pub mod Ends
+pub mod Device
 pub mod Follows
 pub mod Makes
 pub mod OpenPlaces

@@ -5,7 +5,7 @@ use Rattle.std.specs.FinMap.{get}
 use Rattle.med_base.specs.declared.fingerprint.Fingerprint.{Fingerprint}
 use Rattle.med_base.specs.declared.key.FileKey.{FileKey}
 use Rattle.med_base.specs.Fingerprint.{fingerprint_of}
-use Rattle.med_outside.specs.Ends.{Device, Nodes, Storage, Memory}
+use Rattle.med_outside.specs.Device.{Device, Nodes, Storage, Memory}
 use Rattle.med_outside.specs.Pieces.{piece_size, piece_at, EndsInRange, upload_of, with_piece, with_upload}
 use Rattle.med_outside.specs.Snapshot.{Snapshot, SnapState, StaysOpen}
 use Rattle.med_outside.specs.State.{State, OnlyReads, History}

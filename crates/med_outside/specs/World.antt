@@ -2,7 +2,7 @@
 use Rattle.std.specs.Prelude.{◌≡◌, ◌≤◌, ℕ, List, Option}
 use Rattle.med_outside.specs.Causes.{RoseOrFull}
 use Rattle.med_outside.specs.Counts.{SnapshotCounts, Tagged}
-use Rattle.med_outside.specs.Ends.{Device, Files, Nodes, Storage, Output, Memory}
+use Rattle.med_outside.specs.Device.{Device, Files, Nodes, Storage, Output, Memory}
 use Rattle.med_outside.specs.Snapshot.{Snapshot, SnapState}
 use Rattle.med_outside.specs.State.{State, History}
 

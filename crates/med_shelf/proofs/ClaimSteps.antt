@@ -23,7 +23,7 @@ use Rattle.med_outside.proofs.Making.{all_made, gained, in_turn, nothing_yet, to
 use Rattle.med_shelf.specs.declared.errors.ClaimError.{ClaimError}
 use Rattle.med_shelf.specs.declared.errors.ClaimError.TheVariants as error
 use Rattle.med_shelf.specs.Acts.{ActsAsClaim, event_of}
-use Rattle.med_shelf.specs.Claims.{AnswersLook, Runs}
+use Rattle.med_shelf.specs.Claims.{AnswersLook, Runs, WhereRefused}
 use Rattle.med_shelf.specs.Endings.{claim_ending}
 use Rattle.med_shelf.specs.Records.{AreRecordsOf}
 use Rattle.med_shelf.specs.Shelf.{ShelfState, running_of, with_running}
@@ -278,3 +278,10 @@ module _ (T : Type 0) (shelf : ShelfState) (n : List ℕ) (d : Bool) (schema rin
         put_whole here.0 here.1 now s0 s2 p0 p2 t0 t2 answer.0 answer.1 more x
         (behind (IsOk {E = ClaimError} (Ok x)) (IsError {E = ClaimError} (Ok x) error.Store)
         (λ _. ok) blames)
+
+-- what holds after every error holds where the name is refused
+pub refused_of : (T : Type 0) (e : ClaimError) (P : Type 0) → P → WhereRefused {T = T} (Err e) P
+refused_of T (error.Running name) P h = h
+refused_of T (error.Taken path) P h = h
+refused_of T error.Store P h = tt
+refused_of T error.Memory P h = tt

@@ -32,6 +32,12 @@ AnswersClaim shelf name mode (Err (Taken path)) = Unit {0}
 AnswersClaim shelf name mode (Err Store) = Unit {0}
 AnswersClaim shelf name mode (Err Memory) = Unit {0}
 
+-- this holds where the name is refused
+abbrev pub WhereRefused : {T : Type 0} → Result T ClaimError → Type 0 → Type 0
+WhereRefused (Err (Running n)) P = P
+WhereRefused (Err (Taken path)) P = P
+WhereRefused _ P = Unit {0}
+
 -- the storage's count of faults doesn't fall, and a fault of the storage comes only where it rose
 pub record HasClaimCause {T : Type 0} (before now : ℕ) (result : Result T ClaimError) : Type 0 where
   pub later : before ≤ now

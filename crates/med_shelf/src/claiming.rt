@@ -1,5 +1,5 @@
 // A backup starts: its name is claimed, or given up again.
-ghost use Rattle.std.specs.Prelude.{◌≡◌, ◌≤◌, ◌-◌, ◌∷◌, ◌↔◌, true, IfOk, vec_len, vec_capacity};
+ghost use Rattle.std.specs.Prelude.{◌≡◌, ◌≤◌, ◌-◌, [], ◌∷◌, ◌↔◌, true, IfOk, vec_len, vec_capacity};
 ghost use Rattle.med_base.specs.Kinds.{IsBackupName, IsFqdn};
 ghost use Rattle.med_base.specs.Layout.{backup_folder};
 ghost use Rattle.med_core.specs.Section as section;
@@ -7,10 +7,10 @@ ghost use Rattle.med_core.specs.Section.{Abandon, Done};
 ghost use Rattle.med_core.specs.Run.{running_after};
 ghost use Rattle.med_index.specs.Modes.{is_differential};
 ghost use Rattle.med_outside.specs.Causes.{HasCause};
-ghost use Rattle.med_outside.specs.State.{OnlyReads};
+ghost use Rattle.med_outside.specs.State.{ChangesWithin, OnlyReads};
 ghost use Rattle.med_ring.specs.Written.{ring_text};
 ghost use Rattle.med_shelf.specs.Acts.{ActsAsClaim};
-ghost use Rattle.med_shelf.specs.Claims.{claimed, first_entry, AnswersClaim, AnswersLook, HasClaimCause, IsFirstUnder, Runs};
+ghost use Rattle.med_shelf.specs.Claims.{claimed, first_entry, AnswersClaim, AnswersLook, HasClaimCause, IsFirstUnder, Runs, WhereRefused};
 ghost use Rattle.med_shelf.specs.Shelf.{MayAct, IsClaimOf, running_of};
 
 use crate::puts::put_claim;
@@ -171,6 +171,8 @@ impl Shelf {
             (S.state store.old) (S.state store.new) (S.stood store.old) (S.stood store.new)
             trace.old trace.new }
         ensures answer { AnswersClaim self.old name.now mode result }
+        ensures still { WhereRefused result (ChangesWithin [] (S.state store.old)
+            (S.state store.new) (S.stood store.old) (S.stood store.new)) }
         ensures cause { HasClaimCause (S.state store.old).faults (S.state store.new).faults
             result }
     {

@@ -1,6 +1,6 @@
 // Public calls by themselves, and want of memory.
 use crate::said::{
-    BACKUP, INI, LINE, NODES, OBJECTS, after, append_objects, append_said, files, nodes, seen,
+    ALL, BACKUP, DONE, INI, NODES, PUTS, append_objects, append_said, files, nodes, seen, wanted,
     with_ini, with_names, words,
 };
 use med_backup::walk;
@@ -12,25 +12,25 @@ use med_words::{Request, read_words};
 use std::alloc::Global;
 
 // Whether a text of what was seen is the first backup, or its first puts and status 20.
-fn is_done_or_without_memory(seen: &str) -> bool {
-    let refused = "medusa: out of memory\n";
-    for objects in &OBJECTS {
-        if after(seen, &["20", "", refused, *objects]) == Some("") {
-            return true;
+fn is_done_or_without_memory(alloc: Global, seen: &str) -> Result<bool, NoMemory> {
+    for count in 0..ALL + 1 {
+        let refused = wanted(alloc, "20||medusa: out of memory\u{b6}|", PUTS, count)?;
+        if seen == refused.as_str() {
+            return Ok(true);
         }
     }
-    after(seen, &["0", LINE, "", OBJECTS[3]]) == Some("")
+    let done = wanted(alloc, DONE, PUTS, ALL)?;
+    Ok(seen == done.as_str())
 }
 
 // The first backup, where an allocation may fail.
 fn first_backup_or_no_memory(alloc: Global) -> Result<bool, NoMemory> {
     let words = words(alloc, BACKUP)?;
     let seen = seen(alloc, words.as_slice(), &with_ini(INI))?;
-    Ok(is_done_or_without_memory(seen.as_str()))
+    is_done_or_without_memory(alloc, seen.as_str())
 }
 
-// With ample memory `one_file_is_backed_up_and_its_name_is_taken` of rows.rt says the same and
-// more. Beside the gate each allocation of this test is refused in turn (tools/memory-trials).
+// With ample memory `one_file_is_backed_up` of rows.rt says the same. Beside the gate each allocation of this test is refused in turn (tools/memory-trials).
 #[test]
 fn want_of_memory_leaves_the_first_puts(rt: HostRuntime) {
     match first_backup_or_no_memory(rt.alloc()) {
@@ -136,7 +136,8 @@ fn append_request_of(alloc: Global, text: &mut String, line: &str) -> Result<(),
 fn is_requested(alloc: Global) -> Result<bool, NoMemory> {
     let mut text = String::new(alloc);
     append_request_of(alloc, &mut text, BACKUP)?;
-    Ok(after(text.as_str(), &["0", LINE, "", OBJECTS[3]]) == Some(""))
+    let done = wanted(alloc, DONE, PUTS, ALL)?;
+    Ok(text.as_str() == done.as_str())
 }
 
 #[test]

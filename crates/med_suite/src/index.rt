@@ -1,50 +1,19 @@
 // The worked rows of a rebuild of the index. Each object is laid by hand, of second 1000.
-use crate::said::{INI, Scene, append_objects, append_run, is_seen, nodes, nothing, words};
-use med_base::{NoMemory, ObjPath};
+use crate::said::{
+    INI, PUTS, Scene, append_objects, append_run, is_seen, lay, nodes, nothing, under, words,
+};
+use med_base::NoMemory;
 use med_mem::{MemStore, MemWhen};
 use std::alloc::Global;
 
 // The words of a rebuild, with a bar between two.
 const INDEX: &str = "--config-file|m.ini|build-index";
 
-// What a full backup leaves, its entries in the index among it: a line each, path and bytes.
-const FULL: &str = "\
-index/backup_index/b1/finished_n1_1000.timestamp
-index/backup_index/b1/manifest_n1.json [{\"columnfamily\":\"t-1\",\"keyspace\":\"ks\",\"objects\":\
-[{\"MD5\":\"900150983cd24fb0d6963f7d28e17f72\",\"path\":\"n1/b1/data/ks/t-1/nb-1-big-Data.db\",\
-\"size\":3}]}]
-index/backup_index/b1/started_n1_1000.timestamp
-index/backup_index/b1/tokenmap_n1.json {\"n1\":{\"dc\":\"\",\"is_up\":true,\"rack\":\"\",\
-\"tokens\":[-5,7]}}
-index/latest_backup/n1/backup_name.txt b1
-index/latest_backup/n1/tokenmap.json {\"n1\":{\"dc\":\"\",\"is_up\":true,\"rack\":\"\",\
-\"tokens\":[-5,7]}}
-n1/b1/data/ks/t-1/nb-1-big-Data.db abc
-n1/b1/meta/manifest.json [{\"columnfamily\":\"t-1\",\"keyspace\":\"ks\",\"objects\":\
-[{\"MD5\":\"900150983cd24fb0d6963f7d28e17f72\",\"path\":\"n1/b1/data/ks/t-1/nb-1-big-Data.db\",\
-\"size\":3}]}]
-n1/b1/meta/schema.cql s
-n1/b1/meta/tokenmap.json {\"n1\":{\"dc\":\"\",\"is_up\":true,\"rack\":\"\",\
-\"tokens\":[-5,7]}}";
-
 // The config file of the example, and no snapshot.
 fn scene<'a>() -> Scene<'a> {
     let mut scene = nothing();
     scene.ini = Some(INI);
     scene
-}
-
-// Lays the object of a line, unless its path is this one.
-fn lay(alloc: Global, store: &mut MemStore, line: &str, without: &str) -> Result<(), NoMemory> {
-    let (path, bytes) = match line.split_once(' ') {
-        Some(parts) => parts,
-        None => (line, ""),
-    };
-    if path.is_empty() || path == without {
-        return Ok(());
-    }
-    let path = ObjPath::of(alloc, path)?;
-    store.add(alloc, path, bytes.as_bytes().to_vec(alloc)?, 1000)
 }
 
 // Lays the objects of lines, with such a mark between two, but for the one under a path.
@@ -64,7 +33,8 @@ fn lay_all(
 // A store of a full backup and these objects more, but for the one under a path.
 fn store_of(alloc: Global, more: &str, without: &str) -> Result<MemStore, NoMemory> {
     let mut store = MemStore::new(alloc, 1000, 0);
-    lay_all(alloc, &mut store, FULL, '\n', without)?;
+    let full = under(alloc, PUTS, "")?;
+    lay_all(alloc, &mut store, full.as_str(), '\n', without)?;
     lay_all(alloc, &mut store, more, ',', without)?;
     Ok(store)
 }
@@ -153,10 +123,7 @@ fn a_manifest_that_does_not_read_is_told(rt: HostRuntime) {
 
 #[test]
 fn an_empty_bucket_has_no_line(rt: HostRuntime) {
-    assert_eq!(rt;
-        is_seen(rt.alloc(), INDEX, &scene(), &["0", "", "", ""]),
-        Ok(true)
-    );
+    assert_eq!(rt; is_seen(rt.alloc(), INDEX, &scene(), "0|||", ""), Ok(true));
 }
 
 // Whether a rebuild over a standard output of five bytes leaves the index whole.

@@ -1,5 +1,5 @@
 // Files of about a piece, whose bytes are all 7.
-use crate::said::{BACKUP, INI, NODES, after, append_run, key, with_ini, words};
+use crate::said::{BACKUP, INI, NODES, RING, append_run, key, with_ini, words};
 use med_base::NoMemory;
 use med_mem::{MemFile, MemNodes, MemSnap, MemStore};
 use std::alloc::Global;
@@ -7,18 +7,18 @@ use std::alloc::Global;
 // A piece, one byte more, and no byte.
 const FILES: [(&str, usize); 3] = [("a", 1_048_576), ("b", 1_048_577), ("c", 0)];
 
-const FILES_LINE: &str = "backup b1 of n1: 3 files, 2097153 bytes, 0 reused, 3 stored, 0 aside\n";
+const FILES_DONE: &str =
+    "0|backup b1 of n1: 3 files, 2097153 bytes, 0 reused, 3 stored, 0 aside\n||";
 
-// The line of the manifest and those of the schema.
-const META: &str = "n1/b1/meta/manifest.json 1000 \
+// The line of the manifest, which follows those of the files.
+const MANIFEST: &str = "n1/b1/meta/manifest.json 1000 \
     [{\"columnfamily\":\"t-1\",\"keyspace\":\"ks\",\"objects\":[\
     {\"MD5\":\"24c8b42e9f4d53ef58987e469baaad49\",\
     \"path\":\"n1/b1/data/ks/t-1/a\",\"size\":1048576},\
     {\"MD5\":\"f8c6fc2107925cdb6add9bea0f7deb1f\",\
     \"path\":\"n1/b1/data/ks/t-1/b\",\"size\":1048577},\
     {\"MD5\":\"d41d8cd98f00b204e9800998ecf8427e\",\
-    \"path\":\"n1/b1/data/ks/t-1/c\",\"size\":0}]}]\n\
-    n1/b1/meta/schema.cql 1000 -- s\n\n";
+    \"path\":\"n1/b1/data/ks/t-1/c\",\"size\":0}]}]\n";
 
 fn file(alloc: Global, name: &str, size: usize) -> Result<MemFile, NoMemory> {
     let key = key(alloc, name)?;
@@ -32,7 +32,7 @@ fn snapshot(alloc: Global) -> Result<MemSnap, NoMemory> {
         files.push(file(alloc, name, size)?)?;
     }
     let schema = b"-- s\n".to_vec(alloc)?;
-    let ring = Vec::new(alloc);
+    let ring = RING.as_bytes().to_vec(alloc)?;
     Ok(MemSnap {
         files,
         schema,
@@ -78,15 +78,15 @@ fn objects(alloc: Global) -> Result<String, NoMemory> {
     for (name, size) in FILES {
         append_file(alloc, &mut text, name, size)?;
     }
-    text.push_str(META)?;
+    text.push_str(MANIFEST)?;
     Ok(text)
 }
 
 fn is_backed_up(alloc: Global) -> Result<bool, NoMemory> {
     let seen = seen(alloc)?;
     let objects = objects(alloc)?;
-    let parts = ["0", FILES_LINE, "", objects.as_str()];
-    Ok(after(seen.as_str(), &parts) == Some(""))
+    let seen = seen.as_str();
+    Ok(seen.starts_with(FILES_DONE) && seen.contains(objects.as_str()))
 }
 
 #[test]

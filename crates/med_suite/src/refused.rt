@@ -1,5 +1,7 @@
 // Words and config files that are refused, and words in place of options.
-use crate::said::{BACKUP, INI, LINE, OBJECTS, Scene, is_seen, nothing, seen, with_ini, words};
+use crate::said::{
+    BACKUP, DONE, INI, PUTS, Scene, is_refused, is_seen, nothing, seen, under, with_ini, words,
+};
 use med_base::NoMemory;
 use std::alloc::Global;
 
@@ -52,7 +54,6 @@ backup|--backup-name|data => medusa: bad value for --backup-name
 backup|--backup-name=a/b => medusa: bad value for --backup-name
 backup|--backup-name|b1|--mode|other => medusa: bad value for --mode
 purge => medusa: not built purge
---config-file|m.ini|backup|--backup-name|b1 => medusa: not built backup
 rehearse|--rounds=1000 => medusa: not built rehearse";
 
 #[test]
@@ -95,6 +96,7 @@ fn a_name_has_at_most_200_bytes(rt: HostRuntime) {
 }
 
 const WITHOUT_A_FILE: &str = "\
+--config-file|m.ini|backup|--backup-name|b1 => medusa: config: no file m.ini
 --config-file|m.ini|backup|--backup-name|b1|--mode|full => medusa: config: no file m.ini
 backup|--backup-name=b1|--mode=full => medusa: config: no file /etc/medusa/medusa.ini";
 
@@ -128,9 +130,8 @@ fn is_provider_refused(alloc: Global) -> Option<bool> {
 #[test]
 fn the_config_file_of_an_operator_is_read(rt: HostRuntime) {
     let alloc = rt.alloc();
-    let parts = ["0", LINE, "", OBJECTS[3]];
     assert_eq!(rt;
-        is_seen(alloc, BACKUP, &with_ini(OPERATOR), &parts),
+        is_seen(alloc, BACKUP, &with_ini(OPERATOR), DONE, PUTS),
         Ok(true)
     );
     assert_eq!(rt; is_provider_refused(alloc), Some(true));
@@ -171,28 +172,26 @@ fn a_config_file_is_refused_with_its_place(rt: HostRuntime) {
 fn a_config_file_that_fails_to_be_read_is_a_read_fault(rt: HostRuntime) {
     let mut scene = with_ini(INI);
     scene.failing = Some(1);
-    let parts = ["7", "", "medusa: read fault\n", ""];
-    assert_eq!(rt; is_seen(rt.alloc(), BACKUP, &scene, &parts), Ok(true));
+    let said = "7||medusa: read fault\u{b6}|";
+    assert_eq!(rt; is_refused(rt.alloc(), BACKUP, &scene, said), Ok(true));
 }
 
 const OVERRIDDEN: &str =
     "--config-file=m.ini|--fqdn=n2|--prefix|p/q|backup|--mode=full|--backup-name=b1";
 
-// The objects of that backup, whose file is named f.
-const PREFIXED: &str = "p/q/n2/b1/data/ks/t-1/f 1000 abc\np/q/n2/b1/meta/manifest.json 1000 \
-    [{\"columnfamily\":\"t-1\",\"keyspace\":\"ks\",\"objects\":[{\"MD5\":\
-    \"900150983cd24fb0d6963f7d28e17f72\",\"path\":\"p/q/n2/b1/data/ks/t-1/f\",\"size\":3}]}]\n\
-    p/q/n2/b1/meta/schema.cql 1000 -- s\n\n";
+const OTHER_DONE: &str = "0|backup b1 of n2: 1 files, 3 bytes, 0 reused, 1 stored, 0 aside\u{b6}||";
 
 // The first backup under a prefix, of a node that the words name in place of the file's.
-#[test]
-fn words_stand_in_place_of_options(rt: HostRuntime) {
+fn stand_in_place(alloc: Global) -> Result<bool, NoMemory> {
+    let puts = PUTS.replace(alloc, "n1", "n2")?;
+    let puts = under(alloc, puts.as_str(), "p/q/")?;
     let mut scene = with_ini(INI);
     scene.node = "n2";
-    scene.names = Some(["f"].as_slice());
-    let line = "backup b1 of n2: 1 files, 3 bytes, 0 reused, 1 stored, 0 aside\n";
-    assert_eq!(rt;
-        is_seen(rt.alloc(), OVERRIDDEN, &scene, &["0", line, "", PREFIXED]),
-        Ok(true)
-    );
+    scene.ring = "{\"n2\":{\"tokens\":[-5,7],\"is_up\":true}}";
+    is_seen(alloc, OVERRIDDEN, &scene, OTHER_DONE, puts.as_str())
+}
+
+#[test]
+fn words_stand_in_place_of_options(rt: HostRuntime) {
+    assert_eq!(rt; stand_in_place(rt.alloc()), Ok(true));
 }

@@ -1,5 +1,5 @@
 // Runs of the top call over the outside in memory, and what is seen of them.
-use med_base::NoMemory;
+use med_base::{NoMemory, ObjPath};
 use med_commands::medusa_main;
 use med_mem::{MemFile, MemFiles, MemNodes, MemObject, MemSink, MemSnap, MemStore};
 use med_outside::{RawKey, Storage};
@@ -14,20 +14,36 @@ pub(crate) const INI: &str =
     "[storage]\nstorage_provider = local\nbase_path = /b\nbucket_name = k\n\
     fqdn = n1\n";
 
-pub(crate) const LINE: &str = "backup b1 of n1: 1 files, 3 bytes, 0 reused, 1 stored, 0 aside\n";
+// What the first backup says: status, standard output and standard error, with a `¶` for each line
+// feed.
+pub(crate) const DONE: &str =
+    "0|backup b1 of n1: 1 files, 3 bytes, 0 reused, 1 stored, 0 aside\u{b6}||";
 
-// The objects of a store after the puts of the first backup, from none to all: the schema, the file
-// and the manifest. A line each: path, second and bytes.
-pub(crate) const OBJECTS: [&str; 4] = [
-    "",
-    "n1/b1/meta/schema.cql 1000 -- s\n\n",
-    "n1/b1/data/ks/t-1/nb-1-big-Data.db 1000 abc\nn1/b1/meta/schema.cql 1000 -- s\n\n",
-    "n1/b1/data/ks/t-1/nb-1-big-Data.db 1000 abc\nn1/b1/meta/manifest.json 1000 \
-    [{\"columnfamily\":\"t-1\",\"keyspace\":\"ks\",\"objects\":[{\"MD5\":\
-    \"900150983cd24fb0d6963f7d28e17f72\",\"path\":\"n1/b1/data/ks/t-1/nb-1-big-Data.db\",\
-    \"size\":3}]}]\n\
-    n1/b1/meta/schema.cql 1000 -- s\n\n",
-];
+// The token map of a node's snapshot.
+pub(crate) const RING: &str = "{\"n1\":{\"tokens\":[-5,7],\"is_up\":true}}";
+
+// The puts of the first backup in their order, a line each: path and bytes. A line feed is a `¶`, and
+// an at sign stands for the prefix.
+pub(crate) const PUTS: &str = "\
+@n1/b1/meta/schema.cql -- s¶
+@n1/b1/meta/tokenmap.json {\"n1\":{\"dc\":\"\",\"is_up\":true,\"rack\":\"\",\"tokens\":[-5,7]}}
+@index/backup_index/b1/tokenmap_n1.json {\"n1\":{\"dc\":\"\",\"is_up\":true,\"rack\":\"\",\
+\"tokens\":[-5,7]}}
+@index/backup_index/b1/started_n1_1000.timestamp
+@n1/b1/data/ks/t-1/nb-1-big-Data.db abc
+@n1/b1/meta/manifest.json [{\"columnfamily\":\"t-1\",\"keyspace\":\"ks\",\"objects\":[{\"MD5\":\
+\"900150983cd24fb0d6963f7d28e17f72\",\"path\":\"@n1/b1/data/ks/t-1/nb-1-big-Data.db\",\
+\"size\":3}]}]
+@index/backup_index/b1/manifest_n1.json [{\"columnfamily\":\"t-1\",\"keyspace\":\"ks\",\
+\"objects\":[{\"MD5\":\"900150983cd24fb0d6963f7d28e17f72\",\
+\"path\":\"@n1/b1/data/ks/t-1/nb-1-big-Data.db\",\"size\":3}]}]
+@index/backup_index/b1/finished_n1_1000.timestamp
+@index/latest_backup/n1/backup_name.txt b1
+@index/latest_backup/n1/tokenmap.json {\"n1\":{\"dc\":\"\",\"is_up\":true,\"rack\":\"\",\
+\"tokens\":[-5,7]}}";
+
+// How many these are.
+pub(crate) const ALL: usize = 10;
 
 // What a run finds.
 #[derive(Clone, Copy)]
@@ -37,10 +53,13 @@ pub(crate) struct Scene<'a> {
     // the read of a file that fails, counted from 1
     pub(crate) failing: Option<u64>,
     pub(crate) node: &'a str,
-    // the names of the files in the node's snapshot for b1, if there is one
+    // the name of the backup whose snapshot the node has
+    pub(crate) backup: &'a str,
+    // the names of the files in that snapshot, if there is one, each with a `=` and its bytes where
+    // they aren't `abc`
     pub(crate) names: Option<&'a [&'a str]>,
-    // by how much the clock of the storage rises at each reading
-    pub(crate) tick: u64,
+    // the token map in it
+    pub(crate) ring: &'a str,
     // how many bytes the standard output takes
     pub(crate) limit: usize,
 }
@@ -51,8 +70,9 @@ pub(crate) fn nothing<'a>() -> Scene<'a> {
         ini: None,
         failing: None,
         node: "n1",
+        backup: "b1",
         names: None,
-        tick: 0,
+        ring: RING,
         limit: 1000,
     }
 }
@@ -63,8 +83,9 @@ pub(crate) fn with_ini<'a>(ini: &'a str) -> Scene<'a> {
         ini: Some(ini),
         failing: None,
         node: "n1",
+        backup: "b1",
         names: Some(["nb-1-big-Data.db"].as_slice()),
-        tick: 0,
+        ring: RING,
         limit: 1000,
     }
 }
@@ -75,8 +96,9 @@ pub(crate) fn with_names<'a>(names: &'a [&'a str]) -> Scene<'a> {
         ini: Some(INI),
         failing: None,
         node: "n1",
+        backup: "b1",
         names: Some(names),
-        tick: 0,
+        ring: RING,
         limit: 1000,
     }
 }
@@ -114,18 +136,20 @@ pub(crate) fn key(alloc: Global, name: &str) -> Result<RawKey, NoMemory> {
 }
 
 fn file(alloc: Global, name: &str) -> Result<MemFile, NoMemory> {
+    let (name, bytes) = name.split_once('=').unwrap_or((name, "abc"));
     let key = key(alloc, name)?;
-    let bytes = b"abc".to_vec(alloc)?;
+    let bytes = bytes.as_bytes().to_vec(alloc)?;
     Ok(MemFile { key, bytes })
 }
 
-fn snapshot(alloc: Global, names: &[&str]) -> Result<MemSnap, NoMemory> {
+// The snapshot of files of these names, with a token map of this text.
+fn snapshot(alloc: Global, names: &[&str], ring: &str) -> Result<MemSnap, NoMemory> {
     let mut files = Vec::new(alloc);
     for name in names {
         files.push(file(alloc, name)?)?;
     }
     let schema = b"-- s\n".to_vec(alloc)?;
-    let ring = Vec::new(alloc);
+    let ring = ring.as_bytes().to_vec(alloc)?;
     Ok(MemSnap {
         files,
         schema,
@@ -133,17 +157,22 @@ fn snapshot(alloc: Global, names: &[&str]) -> Result<MemSnap, NoMemory> {
     })
 }
 
-// The node of a scene, with its snapshot for the backup b1, whose files have the bytes `abc`.
+fn add_snapshot(
+    alloc: Global,
+    nodes: &mut MemNodes,
+    scene: &Scene,
+    names: &[&str],
+) -> Result<(), NoMemory> {
+    let tag = format!(in alloc; "medusa-{}", scene.backup)?;
+    let snapshot = snapshot(alloc, names, scene.ring)?;
+    nodes.add(alloc, NODES, scene.node, tag.as_str(), snapshot)
+}
+
+// The node of a scene, with its snapshot.
 pub(crate) fn nodes(alloc: Global, scene: &Scene) -> Result<MemNodes, NoMemory> {
     let mut nodes = MemNodes::new(alloc);
     if let Some(names) = scene.names {
-        nodes.add(
-            alloc,
-            NODES,
-            scene.node,
-            "medusa-b1",
-            snapshot(alloc, names)?,
-        )?;
+        add_snapshot(alloc, &mut nodes, scene, names)?;
     }
     Ok(nodes)
 }
@@ -243,31 +272,83 @@ pub(crate) fn append_run(
 // What is seen of a command over an empty store.
 pub(crate) fn seen(alloc: Global, words: &[String], scene: &Scene) -> Result<String, NoMemory> {
     let mut text = String::new(alloc);
-    let mut store = MemStore::new(alloc, 1000, scene.tick);
+    let mut store = MemStore::new(alloc, 1000, 0);
     let mut nodes = nodes(alloc, scene)?;
     append_run(alloc, &mut text, words, scene, &mut store, &mut nodes)?;
     Ok(text)
 }
 
-// What follows these parts, where a text of what was seen begins with them.
-pub(crate) fn after<'a>(seen: &'a str, parts: &[&str; 4]) -> Option<&'a str> {
-    let mut rest = seen;
-    for part in parts {
-        rest = rest.strip_prefix(*part)?.strip_prefix('|')?;
-    }
-    Some(rest)
+// Lays an object of second 1000.
+fn lay_object(
+    alloc: Global,
+    store: &mut MemStore,
+    path: &str,
+    bytes: &str,
+) -> Result<(), NoMemory> {
+    let path = ObjPath::of(alloc, path)?;
+    let bytes = bytes.replace(alloc, '\u{b6}', "\n")?;
+    store.add(alloc, path, bytes.as_bytes().to_vec(alloc)?, 1000)
 }
 
-// Whether these words in a scene give exactly these parts: status, standard output, standard error,
-// and objects.
+// Lays the object of a line, path and bytes, unless its path is this one.
+pub(crate) fn lay(
+    alloc: Global,
+    store: &mut MemStore,
+    line: &str,
+    without: &str,
+) -> Result<(), NoMemory> {
+    let (path, bytes) = line.split_once(' ').unwrap_or((line, ""));
+    if path.is_empty() || path == without {
+        return Ok(());
+    }
+    lay_object(alloc, store, path, bytes)
+}
+
+// Lays the first so many objects of lines.
+fn lay_first(
+    alloc: Global,
+    store: &mut MemStore,
+    lines: &str,
+    count: usize,
+) -> Result<(), NoMemory> {
+    for line in lines.split('\n').take(count) {
+        lay(alloc, store, line, "")?;
+    }
+    Ok(())
+}
+
+// The lines with this prefix.
+pub(crate) fn under(alloc: Global, lines: &str, prefix: &str) -> Result<String, NoMemory> {
+    Ok(lines.replace(alloc, '@', prefix)?)
+}
+
+// What is to be seen: `STATUS|OUTPUT|ERROR|`, with a `¶` for each line feed, and the first so many
+// objects of lines without a prefix.
+pub(crate) fn wanted(
+    alloc: Global,
+    said: &str,
+    lines: &str,
+    count: usize,
+) -> Result<String, NoMemory> {
+    let mut text = said.replace(alloc, '\u{b6}', "\n")?;
+    let lines = under(alloc, lines, "")?;
+    let mut store = MemStore::new(alloc, 1000, 0);
+    lay_first(alloc, &mut store, lines.as_str(), count)?;
+    append_objects(alloc, &mut text, &store)?;
+    Ok(text)
+}
+
+// Whether these words in a scene give exactly that.
 pub(crate) fn are_seen(
     alloc: Global,
     words: &[String],
     scene: &Scene,
-    parts: &[&str; 4],
+    said: &str,
+    lines: &str,
 ) -> Result<bool, NoMemory> {
     let seen = seen(alloc, words, scene)?;
-    Ok(after(seen.as_str(), parts) == Some(""))
+    let wanted = wanted(alloc, said, lines, lines.len())?;
+    Ok(seen.as_str() == wanted.as_str())
 }
 
 // The same of the words of a line.
@@ -275,8 +356,19 @@ pub(crate) fn is_seen(
     alloc: Global,
     line: &str,
     scene: &Scene,
-    parts: &[&str; 4],
+    said: &str,
+    lines: &str,
 ) -> Result<bool, NoMemory> {
     let words = words(alloc, line)?;
-    are_seen(alloc, words.as_slice(), scene, parts)
+    are_seen(alloc, words.as_slice(), scene, said, lines)
+}
+
+// Whether the words of a line in a scene are refused so, `STATUS||ERROR|`, over an empty bucket.
+pub(crate) fn is_refused(
+    alloc: Global,
+    line: &str,
+    scene: &Scene,
+    said: &str,
+) -> Result<bool, NoMemory> {
+    is_seen(alloc, line, scene, said, "")
 }

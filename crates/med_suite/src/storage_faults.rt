@@ -1,6 +1,6 @@
 // Backups whose storage fails at one call.
-use crate::said::{BACKUP, INI, OBJECTS, after, append_run, nodes, with_ini, words};
-use med_base::NoMemory;
+use crate::said::{ALL, BACKUP, INI, PUTS, append_run, nodes, under, wanted, with_ini, words};
+use med_base::{NoMemory, ObjPath};
 use med_mem::{MemStore, MemWhen};
 use std::alloc::Global;
 
@@ -11,50 +11,58 @@ fn append_backup(alloc: Global, text: &mut String, store: &mut MemStore) -> Resu
     append_run(alloc, text, words.as_slice(), &scene, store, &mut nodes)
 }
 
-// What is seen of the first backup where the storage's call of a number fails.
-fn seen(alloc: Global, step: u64, lands: bool) -> Result<String, NoMemory> {
+// What is seen of the first backup where a call of the storage fails.
+fn seen(alloc: Global, when: MemWhen, lands: bool) -> Result<String, NoMemory> {
     let mut text = String::new(alloc);
     let mut store = MemStore::new(alloc, 1000, 0);
-    store.fail(MemWhen::Step(step), lands)?;
+    store.fail(when, lands)?;
     append_backup(alloc, &mut text, &mut store)?;
     Ok(text)
 }
 
-// A row `CALL STEP EFFECT => COUNT`: the call of that number fails, and takes effect where EFFECT
-// is `lands`. Then the first so many puts of the first backup stand.
-fn is_right(alloc: Global, row: &str) -> Option<bool> {
-    let (set, count) = row.split_once(" => ")?;
-    let (call, effect) = set.rsplit_once(' ')?;
-    let (_, step) = call.split_once(' ')?;
-    let seen = seen(alloc, step.parse::<u64>().ok()?, effect == "lands").ok()?;
-    let objects = *OBJECTS.as_slice().get(count.parse::<u8>().ok()? as usize)?;
-    let parts = ["8", "", "medusa: storage fault\n", objects];
-    Some(after(seen.as_str(), &parts) == Some(""))
+// Whether the first so many puts stand, and the fault is told.
+fn is_left(alloc: Global, when: MemWhen, lands: bool, count: usize) -> Result<bool, NoMemory> {
+    let seen = seen(alloc, when, lands)?;
+    let wanted = wanted(alloc, "8||medusa: storage fault\u{b6}|", PUTS, count)?;
+    Ok(seen.as_str() == wanted.as_str())
 }
 
-// The first row whose backup doesn't end so.
-fn first_wrong<'a>(alloc: Global, table: &'a str) -> Option<&'a str> {
-    for row in table.split('\n') {
-        if is_right(alloc, row) != Some(true) {
-            return Some(row);
+// The path that is put behind so many others.
+fn path_at(alloc: Global, at: usize) -> Option<ObjPath> {
+    let lines = under(alloc, PUTS, "").ok()?;
+    let line = lines.as_str().split('\n').nth(at)?;
+    let (path, _) = line.split_once(' ').unwrap_or((line, ""));
+    ObjPath::of(alloc, path).ok()
+}
+
+// Whether that put fails so: with it or without it, by whether it takes effect.
+fn does_fail(alloc: Global, at: usize, lands: bool) -> Option<bool> {
+    let path = path_at(alloc, at)?;
+    let count = if lands { at.saturating_add(1) } else { at };
+    is_left(alloc, MemWhen::PutOf(path), lands, count).ok()
+}
+
+// The first put that doesn't fail so.
+fn first_wrong(alloc: Global, lands: bool) -> Option<usize> {
+    for at in 0..ALL {
+        if does_fail(alloc, at, lands) != Some(true) {
+            return Some(at);
         }
     }
     None
 }
 
-const FAILING: &str = "\
-open 1 misses => 0
-list_page 2 misses => 0
-put 3 misses => 0
-put 3 lands => 1
-begin 4 misses => 1
-append 5 misses => 1
-commit 6 misses => 1
-commit 6 lands => 2
-put 7 misses => 2
-put 7 lands => 3";
-
 #[test]
-fn a_failing_call_ends_the_backup_with_what_was_put(rt: HostRuntime) {
-    assert_eq!(rt; first_wrong(rt.alloc(), FAILING), None);
+fn a_failing_put_ends_the_backup_with_what_was_put(rt: HostRuntime) {
+    let alloc = rt.alloc();
+    assert_eq!(rt; first_wrong(alloc, false), None);
+    assert_eq!(rt; first_wrong(alloc, true), None);
+}
+
+// The first call opens the bucket, and the second one looks at the folder of the name.
+#[test]
+fn a_failing_call_before_the_first_put_leaves_nothing(rt: HostRuntime) {
+    let alloc = rt.alloc();
+    assert_eq!(rt; is_left(alloc, MemWhen::Step(1), false, 0), Ok(true));
+    assert_eq!(rt; is_left(alloc, MemWhen::Step(2), false, 0), Ok(true));
 }

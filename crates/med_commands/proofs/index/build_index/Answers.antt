@@ -1,11 +1,12 @@
-use Rattle.std.proofs.Common.{◌≡◌, [], Ok, Err, inl, inr, refl, string_bytes}
+use Rattle.std.proofs.Common.{Err, inl, inr, refl, string_bytes}
 use Rattle.std.proofs.lemmas.Result.{err_from_is_err_and}
-use Rattle.med_outside.specs.Ends.{Memory, Storage, seen}
+use Rattle.med_outside.specs.Device.{Memory, Storage}
+use Rattle.med_plan.specs.Ends.{seen}
 use Rattle.med_outside.specs.State.{OnlyReads}
 use Rattle.med_outside.specs.World.{world, rose_of}
 use Rattle.med_outside.proofs.Passing.{moves_at_rest}
 use Rattle.med_words.specs.Views.{asked_of}
-use Rattle.med_backup.specs.NodeConfig.{node_config_of, opened_at}
+use Rattle.med_commands.specs.NodeConfig.{node_config_of, opened_at}
 use Rattle.med_commands.specs.Fault.{stop_of, stop_of_load}
 use Rattle.med_commands.proofs.BackupSteps.{load_stop}
 use Rattle.med_commands.proofs.IndexEnds.{asked_index, open_goes_on, open_stops, work_ends, work_stops}

@@ -1,7 +1,7 @@
 use Rattle.std.proofs.Common.{◌+◌, ℕ, List, [], Err, take, drop, sym, subst, string_bytes, arith}
 use Rattle.med_base.proofs.Lists.{take_next, split_at}
-use Rattle.med_backup.specs.Copies.{IsMadeBy}
-use Rattle.med_outside.specs.Ends.{Ends}
+use Rattle.med_commands.specs.Changes.{IsMadeBy}
+use Rattle.med_plan.specs.Ends.{Ends}
 use Rattle.med_outside.proofs.Passing.{moves_at_rest}
 use Rattle.med_commands.specs.Fault.{stop_of}
 use Rattle.med_commands.specs.Indexed.{HasRebuilt, rebuilds_plan, rose_of_store}

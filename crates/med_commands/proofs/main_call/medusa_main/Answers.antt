@@ -1,7 +1,8 @@
 use Rattle.std.proofs.Common.{Err, inl, inr, refl, ap, ◌∙◌, map, string_bytes}
-use Rattle.med_outside.specs.Ends.{BadWords, Refused, Failed, Memory, Ends}
+use Rattle.med_outside.specs.Device.{Memory}
+use Rattle.med_plan.specs.Ends.{BadWords, Refused, Failed, Ends}
 use Rattle.med_outside.specs.World.{world, rose_of}
-use Rattle.med_outside.proofs.EndsLemmas.{plan_exact}
+use Rattle.med_plan.proofs.EndsLemmas.{plan_exact}
 use Rattle.med_outside.proofs.Passing.{moves_at_rest}
 use Rattle.med_words.specs.Views.{asked_of}
 use Rattle.med_commands.specs.Headline.{End, says}

@@ -1,6 +1,6 @@
 use Rattle.std.proofs.Common.{Ok, Err, refl, ap, ◌∙◌, arith}
 use Rattle.med_outside.specs.World.{world, rose_of}
-use Rattle.med_outside.proofs.EndsLemmas.{plan_exact}
+use Rattle.med_plan.proofs.EndsLemmas.{plan_exact}
 use Rattle.med_words.specs.Views.{asked_of}
 use Rattle.med_commands.specs.Fault.{stop_of}
 use Rattle.med_commands.specs.Headline.{says}

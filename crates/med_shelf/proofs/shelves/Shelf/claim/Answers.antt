@@ -5,7 +5,7 @@ use Rattle.med_ring.specs.Written.{ring_text}
 use Rattle.med_shelf.specs.declared.claims.Claim.{Claim}
 use Rattle.med_shelf.specs.declared.errors.ClaimError.TheVariants.{Store, Memory}
 use Rattle.med_shelf.specs.Shelf.{ShelfState}
-use Rattle.med_shelf.proofs.ClaimSteps.{looked_in_vain, made_behind, one_more, refused_behind, same_shelf, shelf_of}
+use Rattle.med_shelf.proofs.ClaimSteps.{looked_in_vain, made_behind, one_more, refused_behind, refused_of, same_shelf, shelf_of}
 use Rattle.med_shelf.proofs.shelves.Shelf.claim.Goals as goal
 
 pub returns-in-Err-clause-acts : goal.returns-in-Err-clause-acts
@@ -16,6 +16,9 @@ returns-in-Err-clause-acts g c =
     c.names_keep_rules.ensures.name c.args.self.now refl _ _ _ _ c.args.trace.now c.args.trace.now
     c.in-Err.error refl c.requires.sure c.in-Err.ensures.looks.moves (Unit {0})
     c.in-Err.ensures.answer
+
+pub returns-in-Err-clause-still : goal.returns-in-Err-clause-still
+returns-in-Err-clause-still g c = refused_of Claim c.in-Err.error _ c.in-Err.ensures.looks.moves
 
 pub returns-in-Err-reserve-clause-acts : goal.returns-in-Err-reserve-clause-acts
 returns-in-Err-reserve-clause-acts g c =

@@ -1,5 +1,0 @@
-pub mod Backups
-pub mod Facts
-pub mod Placing
-pub mod Sections
-pub mod Sources
