@@ -93,7 +93,16 @@ impl Ways {
         }
     }
 
-    // The same. Where it makes, and nothing is there, the folder is made.
+    // Makes a folder, the way to whose parent is plain, and looks at what is there then: another program
+    // may have made it meanwhile.
+    fn make_below<R: Files>(&mut self, rt: &R, alloc: Global, folder: &str) -> io::Result<Way> {
+        match make_folder(rt, folder) {
+            Err(error) if error.kind() != ErrorKind::AlreadyExists => Err(error),
+            _ => self.look(rt, alloc, folder),
+        }
+    }
+
+    // Looks at a folder in the same way. Where it makes, and nothing is there, the folder is made.
     fn step<R: Files>(
         &mut self,
         rt: &R,
@@ -102,19 +111,8 @@ impl Ways {
         makes: bool,
     ) -> io::Result<Way> {
         match self.look(rt, alloc, folder)? {
-            Way::Broken if makes => {
-                make_folder(rt, folder)?;
-                self.look(rt, alloc, folder)
-            }
+            Way::Broken if makes => self.make_below(rt, alloc, folder),
             way => Ok(way),
-        }
-    }
-
-    // Makes a folder, the way to whose parent is plain, and looks at what is there then.
-    fn make_below<R: Files>(&mut self, rt: &R, alloc: Global, folder: &str) -> io::Result<Way> {
-        match make_folder(rt, folder) {
-            Err(error) if error.kind() != ErrorKind::AlreadyExists => Err(error),
-            _ => self.look(rt, alloc, folder),
         }
     }
 
