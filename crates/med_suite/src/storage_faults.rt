@@ -66,3 +66,12 @@ fn a_failing_call_before_the_first_put_leaves_nothing(rt: HostRuntime) {
     assert_eq!(rt; is_left(alloc, MemWhen::Step(1), false, 0), Ok(true));
     assert_eq!(rt; is_left(alloc, MemWhen::Step(2), false, 0), Ok(true));
 }
+
+// Behind the four puts of the claim the upload begins, its one piece is appended, and it is committed.
+#[test]
+fn a_failing_append_leaves_no_object_of_the_file(rt: HostRuntime) {
+    let alloc = rt.alloc();
+    assert_eq!(rt; is_left(alloc, MemWhen::Step(7), false, 4), Ok(true));
+    assert_eq!(rt; is_left(alloc, MemWhen::Step(8), false, 4), Ok(true));
+    assert_eq!(rt; is_left(alloc, MemWhen::Step(9), true, 5), Ok(true));
+}
