@@ -9,8 +9,11 @@ use std::alloc::Global;
 use std::io;
 use std::io::{ErrorKind, Read, Seek, SeekFrom};
 
-// How many bytes of a file are read first. Most files of a table have fewer.
+// How many bytes of a file are read first, and how many next. Room is cleared before it is read into,
+// so a small file isn't given the room of a piece.
 const SMALL: usize = 16_384;
+
+const MIDDLE: usize = 131_072;
 
 // Reads until the room is full or the file ends, and answers how many bytes were read.
 fn fill<F: Read>(file: &mut F, room: &mut [u8]) -> io::Result<usize>
@@ -53,8 +56,7 @@ fn read_up_to<F: Read>(file: &mut F, bytes: &mut Vec<u8>, size: usize) -> io::Re
     Ok(())
 }
 
-// The bytes that a file has left, up to a piece. It isn't full only where the file ended. There is
-// room for a piece only where the file has more than a small one.
+// The bytes that a file has left, up to a piece. It isn't full only where the file ended.
 fn next_piece<F: Read>(alloc: Global, file: &mut F) -> io::Result<Piece>
     ensures bytes { IfOk result (Consumes (F.remaining file.old) (F.remaining file.new)) }
     ensures end { IfOk result
@@ -63,6 +65,10 @@ fn next_piece<F: Read>(alloc: Global, file: &mut F) -> io::Result<Piece>
     let mut bytes = Vec::new(alloc);
     read_up_to(file, &mut bytes, SMALL)?;
     if bytes.len() < SMALL {
+        return Ok(Piece::from_vec(bytes));
+    }
+    read_up_to(file, &mut bytes, MIDDLE)?;
+    if bytes.len() < MIDDLE {
         return Ok(Piece::from_vec(bytes));
     }
     read_up_to(file, &mut bytes, PIECE)?;
