@@ -1,11 +1,11 @@
 -- The entries that an index has are those of a listing under its folder.
-use Rattle.std.proofs.Common.{◌≡◌, ◌&&◌, ◌∙◌, ℕ, Bool, true, false, true≢false, cond, List, [], ◌∷◌, ◌++◌, map, filter, Option, Some, None, IfSome, bytes_eq, codes, refl, sym, ap, subst, append_assoc, append-nil}
+use Rattle.std.proofs.Common.{◌≡◌, ◌&&◌, ◌∙◌, ℕ, Bool, true, false, true≢false, List, [], ◌∷◌, ◌++◌, map, filter, Option, Some, None, IfSome, bytes_eq, refl, sym, ap, subst, append-nil}
 use Rattle.std.proofs.lemmas.Option.{same_Some}
-use Rattle.std.specs.FinMap.{entries, keys}
+use Rattle.std.specs.FinMap.{entries}
 use Rattle.std.specs.List.{AllByRecursion}
 use Rattle.med_base.specs.declared.kinds.IndexKind.{IndexKind}
 use Rattle.med_base.specs.Classify.{kind_of}
-use Rattle.med_base.specs.Content.{Content, Object, is_under, objects_under}
+use Rattle.med_base.specs.Content.{Content, Object, is_under}
 use Rattle.med_base.specs.Kinds.{Kind, Shared, Own, Meta, Entry as IndexEntry, Latest, Stray, Other}
 use Rattle.med_base.specs.Layout.{entry_file, entry_path, index_folder}
 use Rattle.med_base.proofs.Bools.{same_bytes}
@@ -15,7 +15,6 @@ use Rattle.med_base.proofs.Parts.{entries-part_of}
 use Rattle.med_manifest.specs.Listed.{paths_of}
 use Rattle.med_manifest.specs.Rebuild.{is_entry_of}
 use Rattle.med_outside.specs.Storage.{entry_of, listing}
-use Rattle.med_outside.specs.declared.storage.Entry.{Entry}
 use Rattle.med_index.specs.Listed.{AreKept, IsEntryOfBackup, IsKeeping, wanted}
 
 abbrev Pair : Type 0

@@ -3,6 +3,7 @@ use Rattle.std.proofs.Common.{◌≡◌, ◌∙◌, ℕ, List, [], ◌∷◌, �
 use Rattle.std.proofs.lemmas.List.Elements.{recursion_from_All}
 use Rattle.std.proofs.lemmas.Map.Views.{All-found}
 use Rattle.std.proofs.lemmas.Option.{same_Some}
+use Rattle.std.specs.BTreeSet.{BTreeSet}
 use Rattle.std.specs.BTreeMap.{BTreeMap, IsOrdered, get}
 use Rattle.std.specs.Cmp.Lexicographic.{nat_list_cmp_total}
 use Rattle.std.specs.FinMap as finite
@@ -15,15 +16,15 @@ use Rattle.med_base.proofs.Lists.{all_split}
 use Rattle.med_base.specs.declared.layout.MetaKind.TheVariants.{Manifest}
 use Rattle.med_base.specs.Layout.{meta_path}
 use Rattle.med_manifest.specs.declared.why.ManifestWhy.{ManifestWhy}
-use Rattle.med_manifest.specs.Listed.{paths_of}
 use Rattle.med_manifest.specs.Manifest.{IsManifest}
-use Rattle.med_manifest.specs.Mend.{is_manifest_outside, name_in}
+use Rattle.med_manifest.specs.Mend.{name_in}
 use Rattle.med_manifest.specs.Reads.{DoesRead}
 use Rattle.med_manifest.specs.Refusals.{IsRefused}
 use Rattle.med_index.specs.declared.errors.IndexError.{IndexError}
 use Rattle.med_index.specs.declared.errors.IndexError.TheVariants.{BadManifest, Store, Memory}
 use Rattle.med_index.specs.declared.marks.Marks.{Marks}
 use Rattle.med_index.specs.Gathered.{IsGathered, ReadsAll, TellsUnread}
+use Rattle.med_index.specs.Marks.{IsSetOf}
 use Rattle.med_index.specs.Given.{AreOfNode, AreRestsTold, AreRightly, AreSizes, Given, IsFoundAs}
 use Rattle.med_index.specs.Manifests.{AreManifests, AreManifestsOf, AreNamed, AreReadTold, IsStopped, IsStoppedAt, Manifests}
 use Rattle.med_index.specs.Rebuilt.{IsFirstBad}
@@ -52,14 +53,15 @@ keys_append : (es ds : List (List ℕ × List ℕ)) → keys_of (es ++ ds) ≡ k
 keys_append [] ds = refl
 keys_append (e ∷ es) ds = ap (λ l. e.0 ∷ l) (keys_append es ds)
 
-module _ (before f : List ℕ) (found : BTreeMap (List ℕ) Marks) (m : Manifests) where
-  pub named_of : IsOrdered name_cmp found → AreManifests before f found found.entries m
+module _ (before f : List ℕ) (found : BTreeMap (List ℕ) Marks) (but : BTreeSet (List ℕ))
+    (m : Manifests) where
+  pub named_of : IsOrdered name_cmp found → AreManifests before f found but found.entries m
       → AreNamed before f m
   named_of ordered are path n e = ((are (found_all found ordered)).named path n e).kind_is
 
   module _ (ordered : IsOrdered name_cmp found) (rising : IsOrdered name_cmp m)
-      (are : AreManifests before f found found.entries m) where
-    of_found : AreManifestsOf before f found found.entries m
+      (are : AreManifests before f found but found.entries m) (set : IsSetOf [] but) where
+    of_found : AreManifestsOf before f found but found.entries m
     of_found = are (found_all found ordered)
 
     pub reads_all : (told : Option Content) (old new : Given)
@@ -67,6 +69,8 @@ module _ (before f : List ℕ) (found : BTreeMap (List ℕ) Marks) (m : Manifest
         → IfSome told (λ c. ReadsAll before f c found old new)
     reads_all None old new reads = tt
     reads_all (Some c) old new reads = record {
+      none = but;
+      none_is = set;
       manifests = m;
       rising = rising;
       ordered = ordered;
@@ -83,7 +87,8 @@ module _ (before f : List ℕ) (found : BTreeMap (List ℕ) Marks) (m : Manifest
           → AllByRecursion (DoesRead before c f) (keys_of es)
       good_read [] got all = tt
       good_read (e ∷ es) got all =
-          let o = manifest_stands before f c found ordered there m rising of_found e.0 e.1 got.0 in
+          let o = manifest_stands before f c found ordered there [] but set m rising of_found e.0
+          e.1 got.0 in
           (all.0 o.0 o.1, good_read es got.1 all.1)
 
       first_bad : (at : List ℕ) (why : ManifestWhy)
@@ -101,7 +106,7 @@ module _ (before f : List ℕ) (found : BTreeMap (List ℕ) Marks) (m : Manifest
               good = keys_of stop.good;
               rest = keys_of stop.rest;
               paths =
-                  sym (paths_are before f c found ordered there m rising of_found)
+                  sym (paths_are before f c found ordered there [] but set m rising of_found)
                   ∙ ap keys_of stop.parts ∙ keys_append stop.good ((at, stop.name) ∷ stop.rest);
               read = good_read stop.good parts.0 stop.read;
               unread = λ (files, has).
@@ -160,10 +165,10 @@ gathered before f found sizes old first last (Some c) once twice same1 same2 non
       sized = sized;
       right = more.grows.right (all.reads.grows.right (nothing_right before f c old none));
       complete =
-          complete before f c found all.ordered there all.manifests all.rising all.of_found old
+          complete before f c found all.ordered there all.none all.none_is all.manifests all.rising all.of_found old
           first last all.reads more;
       read =
-          all_read before f c found all.ordered there all.manifests all.rising all.of_found old
+          all_read before f c found all.ordered there all.none all.none_is all.manifests all.rising all.of_found old
           first last all.reads more;
     }
 

@@ -1,31 +1,30 @@
 -- Entries that are given to the index of a node, one after another.
-use Rattle.std.proofs.Common.{◌≡◌, ◌∙◌, ◌⊎◌, ◌↔◌, ◌==◌, inl, inr, ℕ, Bool, true, false, cond, List, [], ◌∷◌, ◌++◌, Vec, Option, Some, None, option_map, is_some, IfSome, length, bytes_eq, refl, sym, ap, subst, arith}
+use Rattle.std.proofs.Common.{◌≡◌, ◌∙◌, ◌↔◌, ◌==◌, inl, inr, ℕ, Bool, true, false, cond, List, [], ◌∷◌, ◌++◌, Vec, Option, Some, None, option_map, is_some, length, bytes_eq, refl, sym, ap, subst, arith}
 use Rattle.std.proofs.lemmas.Bool.{eq-eqb}
 use Rattle.std.proofs.lemmas.Option.{same_Some}
 use Rattle.std.specs.declared.alloc.Global.{Global}
 use Rattle.std.specs.BTreeMap.{BTreeMap, Updates, get}
 use Rattle.std.specs.FinMap as finite
-use Rattle.std.specs.List.{AllByRecursion}
 use Rattle.med_base.specs.declared.kinds.IndexKind.{IndexKind}
 use Rattle.med_base.specs.declared.kinds.IndexKind.TheVariants as entry
 use Rattle.med_base.specs.declared.layout.MetaKind.{MetaKind}
-use Rattle.med_base.specs.declared.layout.MetaKind.TheVariants.{Schema, Differential, Tokenmap, Manifest}
+use Rattle.med_base.specs.declared.layout.MetaKind.TheVariants.{Differential, Tokenmap, Manifest}
 use Rattle.med_base.specs.Classify.{kind_of}
 use Rattle.med_base.specs.Content.{Content, Object}
-use Rattle.med_base.specs.Kinds.{Kind, Entry as IndexEntry, Meta}
-use Rattle.med_base.specs.Layout.{entry_path, meta_path}
+use Rattle.med_base.specs.Kinds.{Entry as IndexEntry}
+use Rattle.med_base.specs.Layout.{entry_path}
 use Rattle.med_base.specs.NameOrder.{name_cmp}
 use Rattle.med_base.proofs.Bools.{bytes_same}
 use Rattle.med_base.proofs.Lists.{all_push, all_split, all_with}
-use Rattle.med_manifest.specs.Index.{bytes_in, earlier, empty_at, empty_where, given, given_to, meta_in, or_second, second_in, started}
+use Rattle.med_manifest.specs.Index.{bytes_in, empty_at, empty_where, given, given_to, meta_in, second_in, started}
 use Rattle.med_manifest.specs.Mend.{has_bytes}
 use Rattle.med_manifest.specs.Rebuild.{is_entry_of_node}
-use Rattle.med_manifest.specs.Vault.{second_of, IsBackup, IsStarted}
+use Rattle.med_manifest.specs.Vault.{second_of, IsBackup}
 use Rattle.med_manifest.proofs.Starts.{start_is_told}
 use Rattle.med_outside.specs.State.{State, History, OnlyReads}
 use Rattle.med_outside.proofs.Passing.{moves_on}
 use Rattle.med_index.specs.declared.marks.Marks.{Marks}
-use Rattle.med_index.specs.Given.{AreMarksNoted, AreOfNode, AreRestsGiven, AreRestsTold, AreRightly, AreSizes, Given, Grows, IsCopyNoted, IsEmptyNoted, IsFor, IsFoundAs, IsNoCopy, IsNoted, IsNotedWhere, IsRestGiven, IsRestNoted, IsRightly, IsRingNoted, IsRingOf, WasGiven, bytes_to_put, difference_of, finish_of, size_in, unless_stands}
+use Rattle.med_index.specs.Given.{AreMarksNoted, AreOfNode, AreRestsTold, AreRightly, AreSizes, Given, Grows, IsEmptyNoted, IsFor, IsFoundAs, IsNoted, IsNotedWhere, IsRestGiven, IsRestNoted, IsRightly, IsRingOf, WasGiven, bytes_to_put, difference_of, finish_of, size_in, unless_stands}
 use Rattle.med_index.specs.Marks.{mark_of, start_of}
 use Rattle.med_index.specs.Visits.{AreFound, found_second}
 use Rattle.med_index.proofs.Finding.{put_cases}

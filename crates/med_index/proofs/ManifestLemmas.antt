@@ -1,23 +1,23 @@
 -- The manifests of the finished backups of a node, one after another.
-use Rattle.std.proofs.Common.{◌≡◌, ◌∙◌, ◌⊎◌, inl, inr, ℕ, List, [], ◌∷◌, ◌++◌, map, Option, Some, None, option_map, IfSome, refl, sym, ap, subst}
+use Rattle.std.proofs.Common.{◌≡◌, ◌∙◌, inl, inr, ℕ, List, [], ◌∷◌, ◌++◌, map, Option, Some, None, option_map, refl, sym, ap, subst}
 use Rattle.std.proofs.lemmas.Map.Iter.{rest_more, rest_so_far}
 use Rattle.std.proofs.lemmas.Option.{same_Some}
 use Rattle.std.specs.Iterator.{Yields}
 use Rattle.std.specs.Map.Iter.{TakesFirst}
-use Rattle.std.specs.BTreeMap.{BTreeMap, Updates, get}
+use Rattle.std.specs.BTreeMap.{BTreeMap, get}
+use Rattle.std.specs.BTreeSet.{BTreeSet}
 use Rattle.std.specs.FinMap as finite
 use Rattle.std.specs.List.{AllByRecursion}
 use Rattle.med_base.specs.declared.kinds.IndexKind.TheVariants as entry
 use Rattle.med_base.specs.declared.layout.MetaKind.TheVariants.{Manifest}
 use Rattle.med_base.specs.Classify.{kind_of}
 use Rattle.med_base.specs.Content.{Content, Object}
-use Rattle.med_base.specs.Kinds.{Kind, Meta}
+use Rattle.med_base.specs.Kinds.{Meta}
 use Rattle.med_base.specs.Layout.{entry_path, meta_path}
 use Rattle.med_base.specs.NameOrder.{name_cmp}
 use Rattle.med_base.proofs.Lists.{all_push, all_split, all_with}
 use Rattle.med_manifest.specs.declared.manifest.FileRecord.{FileRecord}
-use Rattle.med_manifest.specs.declared.why.ManifestWhy.{ManifestWhy}
-use Rattle.med_manifest.specs.Index.{bytes_in, given, meta_in}
+use Rattle.med_manifest.specs.Index.{bytes_in, given}
 use Rattle.med_manifest.specs.Manifest.{IsManifest}
 use Rattle.med_manifest.specs.Mend.{name_in}
 use Rattle.med_manifest.specs.Reads.{DoesRead}
@@ -28,8 +28,9 @@ use Rattle.med_outside.specs.Storage.{AnswersBytes}
 use Rattle.med_index.specs.declared.errors.IndexError.{IndexError}
 use Rattle.med_index.specs.declared.errors.IndexError.TheVariants.{BadManifest, Store, Memory}
 use Rattle.med_index.specs.declared.marks.Marks.{Marks}
-use Rattle.med_index.specs.Given.{AreOfNode, Given, Grows, IsCopyNoted, IsFoundAs, WasGiven}
-use Rattle.med_index.specs.Manifests.{AreManifests, AreManifestsOf, AreNamed, AreRead, AreReadTold, IsBadManifest, IsManifestNoted, IsManifestRead, IsNamed, IsReadAs, IsReadIn, IsRefusedAt, IsStopped, IsStoppedAt, Manifests}
+use Rattle.med_index.specs.Given.{AreOfNode, Given, Grows, IsFoundAs, WasGiven}
+use Rattle.med_index.specs.Planned.{outside}
+use Rattle.med_index.specs.Manifests.{AreManifests, AreManifestsOf, AreReadTold, IsBadManifest, IsManifestNoted, IsManifestRead, IsNamed, IsReadAs, IsReadIn, IsStopped, Manifests}
 use Rattle.med_index.proofs.Finding.{nothing_got, put_cases}
 use Rattle.med_index.proofs.GivenLemmas.{grows_on, grows_same, noted_grows, noted_there, noted_within}
 
@@ -45,8 +46,8 @@ name_once : (before f n m path : List ℕ) → kind_of before path ≡ Meta f n 
     → kind_of before path ≡ Meta f m Manifest → n ≡ m
 name_once before f n m path a b = ap name_in (sym a ∙ b)
 
-module _ (before f : List ℕ) (found : Found) where
-  pub manifests_none : (m : Manifests) → m.entries ≡ [] → AreManifests before f found [] m
+module _ (before f : List ℕ) (found : Found) (but : BTreeSet (List ℕ)) where
+  pub manifests_none : (m : Manifests) → m.entries ≡ [] → AreManifests before f found but [] m
   manifests_none m empty = λ got. record {
     named = λ path n is. absurd (let none = none_got m empty path in cc (is, none));
     all = tt;
@@ -57,24 +58,24 @@ module _ (before f : List ℕ) (found : Found) where
 
   -- a backup that isn't finished
   module _ (es : List (List ℕ × Marks)) (n : List ℕ) (marks : Marks) (old new : Manifests) where
-    pub manifest_step : IsManifestNoted before f n marks.manifest old new
-        → AreManifests before f found es old
-        → AreManifests before f found (es ++ (n, marks) ∷ []) new
+    pub manifest_step : IsManifestNoted before f n (outside but n marks.manifest) old new
+        → AreManifests before f found but es old
+        → AreManifests before f found but (es ++ (n, marks) ∷ []) new
     manifest_step noted all got =
         let parts = all_split (IsFoundAs found) es ((n, marks) ∷ []) got in
-        go marks.manifest refl noted (all parts.0) parts.1.0
+        go (outside but n marks.manifest) refl noted (all parts.0) parts.1.0
       where
-        go : (o : Option ℕ) → marks.manifest ≡ o → IsManifestNoted before f n o old new
-            → AreManifestsOf before f found es old → get name_cmp found n ≡ Some marks
-            → AreManifestsOf before f found (es ++ (n, marks) ∷ []) new
+        go : (o : Option ℕ) → outside but n marks.manifest ≡ o → IsManifestNoted before f n o old new
+            → AreManifestsOf before f found but es old → get name_cmp found n ≡ Some marks
+            → AreManifestsOf before f found but (es ++ (n, marks) ∷ []) new
         go None is same first here = record {
           named = λ path m e. first.named path m
               (subst (λ k. get name_cmp k path ≡ Some m) same e);
           all = all_push
-              (λ (e : List ℕ × Marks). (second : ℕ) → e.1.manifest ≡ Some second
+              (λ (e : List ℕ × Marks). (second : ℕ) → outside but e.0 e.1.manifest ≡ Some second
               → get name_cmp new (meta_path before f e.0 Manifest) ≡ Some e.0) es (n, marks)
               (subst (λ k. AllByRecursion
-              (λ (e : List ℕ × Marks). (second : ℕ) → e.1.manifest ≡ Some second
+              (λ (e : List ℕ × Marks). (second : ℕ) → outside but e.0 e.1.manifest ≡ Some second
               → get name_cmp k (meta_path before f e.0 Manifest) ≡ Some e.0) es) (sym same)
               first.all)
               (λ second e. absurd (let none = sym is ∙ e in cc none));
@@ -84,7 +85,7 @@ module _ (before f : List ℕ) (found : Found) where
               elim (put_cases old new (meta_path before f n Manifest) n put.1 path) [
                 | inl both ↦
                     let same : n ≡ m = same_Some n m (sym both.1 ∙ e) in
-                    subst (λ x. IsNamed before f found path x) same
+                    subst (λ x. IsNamed before f found but path x) same
                     (record {
                       path_is = sym both.0;
                       kind_is = ap (kind_of before) (sym both.0) ∙ put.0;
@@ -96,12 +97,12 @@ module _ (before f : List ℕ) (found : Found) where
                 | inr same ↦ first.named path m (sym same ∙ e)
               ];
           all = all_push
-              (λ (e : List ℕ × Marks). (second : ℕ) → e.1.manifest ≡ Some second
+              (λ (e : List ℕ × Marks). (second : ℕ) → outside but e.0 e.1.manifest ≡ Some second
               → get name_cmp new (meta_path before f e.0 Manifest) ≡ Some e.0) es (n, marks)
               (all_with
-              (λ (e : List ℕ × Marks). (second : ℕ) → e.1.manifest ≡ Some second
+              (λ (e : List ℕ × Marks). (second : ℕ) → outside but e.0 e.1.manifest ≡ Some second
               → get name_cmp old (meta_path before f e.0 Manifest) ≡ Some e.0)
-              (λ (e : List ℕ × Marks). (second : ℕ) → e.1.manifest ≡ Some second
+              (λ (e : List ℕ × Marks). (second : ℕ) → outside but e.0 e.1.manifest ≡ Some second
               → get name_cmp new (meta_path before f e.0 Manifest) ≡ Some e.0)
               (λ e was second finished. still e.0 (was second finished)) es first.all)
               (λ other e. put.1.1);

@@ -1,9 +1,10 @@
 -- A mend: the newest backup that was found is that of the content, and what is planned is made.
-use Rattle.std.proofs.Common.{◌≡◌, ◌∙◌, inl, inr, ℕ, Bool, true, false, cond, ◌&&◌, List, [], ◌∷◌, ◌++◌, map, Option, Some, None, option_map, IfSome, Result, Ok, Err, IfOk, OnOk, Contains, bytes_eq, refl, sym, ap, ap₂, subst, get_or}
+use Rattle.std.proofs.Common.{◌≡◌, ◌∙◌, inl, inr, ℕ, Bool, true, false, cond, ◌&&◌, not, List, [], ◌∷◌, ◌++◌, map, Option, Some, None, option_map, IfSome, Result, Ok, Err, IfOk, OnOk, Contains, bytes_eq, refl, sym, ap, ap₂, subst, get_or}
 use Rattle.std.proofs.lemmas.Option.{same_Some}
 use Rattle.std.specs.BTreeMap.{BTreeMap, get as lookup}
+use Rattle.std.specs.BTreeSet.{BTreeSet, contains}
 use Rattle.std.specs.FinMap as fin
-use Rattle.std.specs.List.{AllByRecursion}
+use Rattle.std.specs.List.{AllByRecursion, list_any}
 use Rattle.std.specs.Option.{option_to_list}
 use Rattle.med_base.proofs.Lists.{all_append, contains_map}
 use Rattle.med_base.specs.declared.kinds.LatestKind.{LatestKind}
@@ -17,13 +18,14 @@ use Rattle.med_base.specs.Layout.{latest_path, meta_path}
 use Rattle.med_base.specs.NameOrder.{name_cmp}
 use Rattle.med_manifest.proofs.ByKind.{HasPath, folder, manifest_path, path_has, path_valid}
 use Rattle.med_manifest.proofs.Gets.{from_same, same_itself}
-use Rattle.med_manifest.proofs.Members.{IsListed, all_listed, all_so, is_listed}
-use Rattle.med_manifest.proofs.Newest.{and_first}
+use Rattle.med_manifest.proofs.Members.{IsListed, all_listed, all_so, any_same, is_listed, same_any}
+use Rattle.med_manifest.proofs.Newest.{and_first, and_second}
 use Rattle.med_manifest.specs.Listed.{paths_of}
 use Rattle.med_manifest.specs.Mend.{changes_of_mend, finished_at, has_bytes, is_later, is_manifest_outside, mend_to, mend_tokenmap, name_in, newest, put_unless, second_or_zero}
 use Rattle.med_index.specs.declared.changes.Planned.{Planned}
 use Rattle.med_index.specs.declared.marks.Marks.{Marks}
-use Rattle.med_index.specs.Planned.{ArePlanned, IsNewestFound, IsOfLatestPlan, IsPlanOf, latest_to, object_to}
+use Rattle.med_index.specs.Marks.{IsSetOf}
+use Rattle.med_index.specs.Planned.{ArePlanned, IsFinishedOutside, IsNewestFound, IsOfLatestPlan, IsPlanOf, latest_to, object_to}
 use Rattle.med_index.specs.Rebuilt.{AreOfLatest, IsLatestOf, IsMend, changed}
 use Rattle.med_index.specs.Visits.{AreFound, found_second}
 use Rattle.med_index.proofs.NewestLemmas.{Finish, last_is, last_of_none}
@@ -31,8 +33,22 @@ use Rattle.med_index.proofs.PlanLemmas.{latest_made, object_made, planned_apart}
 
 -- ---- the newest of the content
 
+module _ (names : List (List ℕ)) (but : BTreeSet (List ℕ)) (set : IsSetOf names but) where
+  -- a name that isn't one of these isn't in their set, and the other way round
+  pub not_in_set : (n : List ℕ) (b t : Bool) → list_any (bytes_eq n) names ≡ b
+      → contains name_cmp but n ≡ t → not b ≡ true → contains name_cmp but n ≡ false
+  not_in_set n true t e is isnt = absurd (cc)
+  not_in_set n false true e is isnt = absurd (cc (any_same n names ((set n).0 is), e))
+  not_in_set n false false e is isnt = is
+
+  pub not_in_names : (n : List ℕ) (b : Bool) → list_any (bytes_eq n) names ≡ b
+      → contains name_cmp but n ≡ false → not (list_any (bytes_eq n) names) ≡ true
+  not_in_names n true e isnt = absurd (cc ((set n).1 (same_any n names e), isnt))
+  not_in_names n false e isnt = ap not e
+
 module _ (before : List ℕ) (c : Content) (node f : List ℕ) (found : BTreeMap (List ℕ) Marks)
-    (all_found : AreFound node found before f c []) where
+    (all_found : AreFound node found before f c []) (names : List (List ℕ))
+    (but : BTreeSet (List ℕ)) (set : IsSetOf names but) where
   -- what was found of a backup whose manifest stands
   manifest_found : (n : List ℕ) (o : Object) → HasPath before (Meta f n meta_kind.Manifest)
       → fin.get c (meta_path before f n meta_kind.Manifest) ≡ Some o
@@ -45,36 +61,35 @@ module _ (before : List ℕ) (c : Content) (node f : List ℕ) (found : BTreeMap
         | inr later ↦ absurd later
       ]
 
-  -- a manifest that is listed, with what was found of it
-  abbrev IsFinishFound : Finish → Type 0
-  IsFinishFound a = found_second meta_kind.Manifest (lookup name_cmp found a.1) ≡ Some a.0
-
   finish_at : (p : List ℕ) (k : Kind) → kind_of before p ≡ k
-      → is_manifest_outside f [] k ≡ true → (o : Object) → fin.get c p ≡ Some o
-      → IsFinishFound (finished_at before c p)
+      → is_manifest_outside f names k ≡ true → (o : Object) → fin.get c p ≡ Some o
+      → IsFinishedOutside found but (finished_at before c p)
   finish_at p (Meta g n meta_kind.Manifest) e passes o stands =
-      let is : g ≡ f = from_same g f (and_first (bytes_eq g f) true passes) in
+      let free = not (list_any (bytes_eq n) names) in
+      let is : g ≡ f = from_same g f (and_first (bytes_eq g f) free passes) in
+      let isnt = not_in_set names but set n (list_any (bytes_eq n) names) (contains name_cmp but n) refl refl
+      (and_second (bytes_eq g f) free passes) in
       let kind : kind_of before p ≡ Meta f n meta_kind.Manifest =
       e ∙ ap (λ h. Meta h n meta_kind.Manifest) is in
       let here : p ≡ meta_path before f n meta_kind.Manifest = manifest_path before p f n kind in
       let got = manifest_found n o (ap (kind_of before) (sym here) ∙ kind)
       (ap (fin.get c) (sym here) ∙ stands) in
-      subst IsFinishFound
-      (sym (λ i. (second_or_zero (stands i), name_in (kind i)))) got
+      subst (IsFinishedOutside found but)
+      (sym (λ i. (second_or_zero (stands i), name_in (kind i)))) (isnt, got)
   finish_at p _ e passes o stands = absurd (cc)
 
   all_finishes : (ps : List (List ℕ))
-      → AllByRecursion (IsListed before c (is_manifest_outside f [])) ps
-      → AllByRecursion IsFinishFound (map (finished_at before c) ps)
+      → AllByRecursion (IsListed before c (is_manifest_outside f names)) ps
+      → AllByRecursion (IsFinishedOutside found but) (map (finished_at before c) ps)
   all_finishes [] all = tt
   all_finishes (p ∷ ps) all =
       (finish_at p (kind_of before p) refl all.0.0 all.0.1.0 all.0.1.1, all_finishes ps all.1)
 
-  finishes_found : AllByRecursion IsFinishFound
-      (map (finished_at before c) (paths_of before c (is_manifest_outside f [])))
+  finishes_found : AllByRecursion (IsFinishedOutside found but)
+      (map (finished_at before c) (paths_of before c (is_manifest_outside f names)))
   finishes_found =
-      all_finishes (paths_of before c (is_manifest_outside f []))
-      (all_listed before c (is_manifest_outside f []))
+      all_finishes (paths_of before c (is_manifest_outside f names))
+      (all_listed before c (is_manifest_outside f names))
 
   some_object : (o : Option Object) (second : ℕ)
       → option_map (λ (x : Object). x.second) o ≡ Some second
@@ -84,32 +99,34 @@ module _ (before : List ℕ) (c : Content) (node f : List ℕ) (found : BTreeMap
 
   -- a finished backup that was found is among those of the content
   among_finishes : (b : Finish) → HasPath before (Meta f b.1 meta_kind.Manifest)
-      → IsFinishFound b
-      → Contains (map (finished_at before c) (paths_of before c (is_manifest_outside f []))) b
-  among_finishes b has got =
+      → IsFinishedOutside found but b
+      → Contains (map (finished_at before c) (paths_of before c (is_manifest_outside f names))) b
+  among_finishes b has (isnt, got) =
       let path = meta_path before f b.1 meta_kind.Manifest in
       let (o, stands, second) = some_object (fin.get c path) b.0
       (all_found.stands b.1 meta_kind.Manifest b.0 got) in
-      let passes : is_manifest_outside f [] (kind_of before path) ≡ true =
-      ap (is_manifest_outside f []) has ∙ ap (λ t. t && true) (same_itself f) in
-      let (k, less, there) = is_listed before c (is_manifest_outside f []) path o passes stands in
+      let passes : is_manifest_outside f names (kind_of before path) ≡ true =
+      ap (is_manifest_outside f names) has
+      ∙ (ap (λ t. t && not (list_any (bytes_eq b.1) names)) (same_itself f)
+      ∙ not_in_names names but set b.1 (list_any (bytes_eq b.1) names) refl isnt) in
+      let (k, less, there) = is_listed before c (is_manifest_outside f names) path o passes stands
+      in
       let mapped = contains_map (finished_at before c)
-      (paths_of before c (is_manifest_outside f [])) k path less (sym there) in
+      (paths_of before c (is_manifest_outside f names)) k path less (sym there) in
       subst
-      (Contains (map (finished_at before c) (paths_of before c (is_manifest_outside f []))))
+      (Contains (map (finished_at before c) (paths_of before c (is_manifest_outside f names))))
       (λ i. ((ap second_or_zero stands ∙ second) i, name_in (has i))) mapped
 
   -- the newest that was found is that of the content
   pub newest_told : (b : Option Finish)
-      → IfSome b (λ a. HasPath before (Meta f a.1 meta_kind.Manifest)) → IsNewestFound found b
-      → newest before c f [] ≡ b
+      → IfSome b (λ a. HasPath before (Meta f a.1 meta_kind.Manifest))
+      → IsNewestFound found but b → newest before c f names ≡ b
   newest_told None has none =
       last_of_none _
-      (all_so IsFinishFound (λ a. ⊥) (λ a got. none a.1 a.0 got) _ finishes_found)
+      (all_so (IsFinishedOutside found but) (λ a. ⊥) none _ finishes_found)
   newest_told (Some b) has (got, last) =
       last_is _ b (among_finishes b has got)
-      (all_so IsFinishFound (λ a. is_later a b ≡ false) (λ a is. last a.1 a.0 is) _
-      finishes_found)
+      (all_so (IsFinishedOutside found but) (λ a. is_later a b ≡ false) last _ finishes_found)
 
 -- ---- the plan
 
@@ -201,15 +218,16 @@ then_planned P Q (Some c) later same found plan =
 module _ (before f : List ℕ) (ps : List Planned) where
   -- a plan for the newest that was found is one of a mend
   pub mend_planned : (told : Option Content) (node : List ℕ) (found : BTreeMap (List ℕ) Marks)
-      (b : Option Finish)
-      → IfSome b (λ a. HasPath before (Meta f a.1 meta_kind.Tokenmap)) → IsNewestFound found b
-      → IfSome told (λ c. Becomes ps (mend_to before c f b))
-      → IfSome told (λ c. AreFound node found before f c []
-      → Becomes ps (changes_of_mend before c f []))
-  mend_planned None node found b has newest plan = tt
-  mend_planned (Some c) node found b has newest plan = λ all_found.
+      (but : BTreeSet (List ℕ)) (b : Option Finish)
+      → IfSome b (λ a. HasPath before (Meta f a.1 meta_kind.Tokenmap))
+      → IsNewestFound found but b → IfSome told (λ c. Becomes ps (mend_to before c f b))
+      → IfSome told (λ c. AreFound node found before f c [] → (names : List (List ℕ))
+      → IsSetOf names but → Becomes ps (changes_of_mend before c f names))
+  mend_planned None node found but b has newest plan = tt
+  mend_planned (Some c) node found but b has newest plan = λ all_found names set.
       subst (λ a. Becomes ps (mend_to before c f a))
-      (sym (newest_told before c node f found all_found b (in_folder b has) newest)) plan
+      (sym (newest_told before c node f found all_found names but set b (in_folder b has) newest))
+      plan
     where
       in_folder : (b : Option Finish)
           → IfSome b (λ a. HasPath before (Meta f a.1 meta_kind.Tokenmap))
@@ -283,25 +301,26 @@ module _ (before f : List ℕ) where
 
   -- the plan for the newest backup that was found, or where there is none
   pub none_planned : {X E : Type 0} (items : X → List Planned) (told : Option Content)
-      (node : List ℕ) (found : BTreeMap (List ℕ) Marks) (r : Result X E)
-      → IsNewestFound found None
+      (node : List ℕ) (found : BTreeMap (List ℕ) Marks) (but : BTreeSet (List ℕ)) (r : Result X E)
+      → IsNewestFound found but None
       → IfOk r (λ x. IfSome told (λ c. Becomes (items x) (mend_to before c f None)))
-      → IfOk r (λ x. IfSome told (λ c. AreFound node found before f c []
-      → Becomes (items x) (changes_of_mend before c f [])))
-  none_planned items told node found (Err e) none plan = tt
-  none_planned items told node found (Ok x) none plan =
-      mend_planned before f (items x) told node found None tt none plan
+      → IfOk r (λ x. IfSome told (λ c. AreFound node found before f c [] → (names : List (List ℕ))
+      → IsSetOf names but → Becomes (items x) (changes_of_mend before c f names)))
+  none_planned items told node found but (Err e) none plan = tt
+  none_planned items told node found but (Ok x) none plan =
+      mend_planned before f (items x) told node found but None tt none plan
 
   pub some_planned : {X E : Type 0} (items : X → List Planned) (told : Option Content)
-      (node : List ℕ) (found : BTreeMap (List ℕ) Marks) (r : Result X E) (a : Finish)
-      → IsNewestFound found (Some a) → OnOk r (HasPath before (Meta f a.1 meta_kind.Tokenmap))
+      (node : List ℕ) (found : BTreeMap (List ℕ) Marks) (but : BTreeSet (List ℕ)) (r : Result X E)
+      (a : Finish) → IsNewestFound found but (Some a)
+      → OnOk r (HasPath before (Meta f a.1 meta_kind.Tokenmap))
       → IfOk r (λ x. IfSome told (λ c. (newest : Finish) → newest.1 ≡ a.1
       → Becomes (items x) (mend_to before c f (Some newest))))
-      → IfOk r (λ x. IfSome told (λ c. AreFound node found before f c []
-      → Becomes (items x) (changes_of_mend before c f [])))
-  some_planned items told node found (Err e) a is has plan = tt
-  some_planned items told node found (Ok x) a is has plan =
-      mend_planned before f (items x) told node found (Some a) has is (go told plan)
+      → IfOk r (λ x. IfSome told (λ c. AreFound node found before f c [] → (names : List (List ℕ))
+      → IsSetOf names but → Becomes (items x) (changes_of_mend before c f names)))
+  some_planned items told node found but (Err e) a is has plan = tt
+  some_planned items told node found but (Ok x) a is has plan =
+      mend_planned before f (items x) told node found but (Some a) has is (go told plan)
     where
       go : (o : Option Content)
           → IfSome o (λ c. (newest : Finish) → newest.1 ≡ a.1
@@ -309,6 +328,18 @@ module _ (before f : List ℕ) where
           → IfSome o (λ c. Becomes (items x) (mend_to before c f (Some a)))
       go None plan = tt
       go (Some c) plan = plan a refl
+
+  -- the plan where there is no name that isn't to be the newest
+  pub all_planned : {X E : Type 0} (items : X → List Planned) (told : Option Content)
+      (node : List ℕ) (found : BTreeMap (List ℕ) Marks) (but : BTreeSet (List ℕ)) (r : Result X E)
+      → IsSetOf [] but
+      → IfOk r (λ x. IfSome told (λ c. AreFound node found before f c [] → (names : List (List ℕ))
+      → IsSetOf names but → Becomes (items x) (changes_of_mend before c f names)))
+      → IfOk r (λ x. IfSome told (λ c. AreFound node found before f c []
+      → Becomes (items x) (changes_of_mend before c f [])))
+  all_planned items told node found but (Err e) set plan = tt
+  all_planned items None node found but (Ok x) set plan = tt
+  all_planned items (Some c) node found but (Ok x) set plan = λ found. plan found [] set
 
   -- the plan after the backups were found
   pub found_planned : {X E : Type 0} (items : X → List Planned) (told later : Option Content)

@@ -5,6 +5,7 @@ use Rattle.std.proofs.lemmas.List.Elements.{All-contains, All-from_recursion, Co
 use Rattle.std.proofs.lemmas.Map.Lookups.{exact_bytes, exact_unsigned}
 use Rattle.std.proofs.lemmas.Map.Views.{btree_map_get_iff}
 use Rattle.std.proofs.lemmas.Option.{same_Some}
+use Rattle.std.specs.BTreeSet.{BTreeSet, contains}
 use Rattle.std.specs.BTreeMap.{BTreeMap, IsOrdered, get as lookup}
 use Rattle.std.specs.Cmp.{IsTotalOrder, nat_cmp_total}
 use Rattle.std.specs.Cmp.Lexicographic.{nat_list_cmp_total}
@@ -18,7 +19,7 @@ use Rattle.med_base.specs.NameOrder.{name_cmp}
 use Rattle.med_manifest.proofs.Members.{contains_first, contains_nothing}
 use Rattle.med_manifest.specs.Mend.{is_later, later_of, latest_of}
 use Rattle.med_index.specs.declared.marks.Marks.{Marks}
-use Rattle.med_index.specs.Planned.{IsNewestFound, with_found}
+use Rattle.med_index.specs.Planned.{IsFinishedOutside, IsNewestFound, outside, with_found}
 use Rattle.med_index.specs.Visits.{found_second}
 
 -- ---- the order of finished backups
@@ -73,88 +74,94 @@ both_same a b isnt none = go (finish_cmp a b) refl isnt
 
 -- ---- the newest of those that were found
 
--- a backup that was found isn't later than this one, or isn't finished where there is none
-abbrev pub IsNoLater : Option Finish → List ℕ × Marks → Type 0
-IsNoLater None e = e.1.manifest ≡ None
-IsNoLater (Some b) e = (second : ℕ) → e.1.manifest ≡ Some second → is_later (second, e.0) b ≡ false
+module _ (but : BTreeSet (List ℕ)) where
+  -- the second of an entry whose name isn't one of these
+  abbrev pub second_of : List ℕ × Marks → Option ℕ
+  second_of e = outside but e.0 e.1.manifest
 
--- it is one of these
-abbrev pub IsAmong : List (List ℕ × Marks) → Option Finish → Type 0
-IsAmong es None = Unit {0}
-IsAmong es (Some b) = (m : Marks) × Contains es (b.1, m) × (m.manifest ≡ Some b.0)
+  -- a backup that was found isn't later than this one, or isn't finished where there is none
+  abbrev pub IsNoLater : Option Finish → List ℕ × Marks → Type 0
+  IsNoLater None e = second_of e ≡ None
+  IsNoLater (Some b) e =
+      (second : ℕ) → second_of e ≡ Some second → is_later (second, e.0) b ≡ false
 
--- the newest finished backup of these
-pub record IsNewestOf (es : List (List ℕ × Marks)) (newest : Option Finish) : Type 0 where
-  pub among : IsAmong es newest
-  pub last : AllByRecursion (IsNoLater newest) es
+  -- it is one of these
+  abbrev pub IsAmong : List (List ℕ × Marks) → Option Finish → Type 0
+  IsAmong es None = Unit {0}
+  IsAmong es (Some b) = (m : Marks) × Contains es (b.1, m) × (second_of (b.1, m) ≡ Some b.0)
 
-among_more : (es : List (List ℕ × Marks)) (newest : Option Finish) (e : List ℕ × Marks)
-    → IsAmong es newest → IsAmong (es ++ e ∷ []) newest
-among_more es None e among = tt
-among_more es (Some b) e (m, has, is) =
-    (m, Contains-append_left es (e ∷ []) (b.1, m) has, is)
+  -- the newest finished backup of these
+  pub record IsNewestOf (es : List (List ℕ × Marks)) (newest : Option Finish) : Type 0 where
+    pub among : IsAmong es newest
+    pub last : AllByRecursion (IsNoLater newest) es
 
-unfinished_no_later : (newest : Option Finish) (e : List ℕ × Marks) → e.1.manifest ≡ None
-    → IsNoLater newest e
-unfinished_no_later None e none = none
-unfinished_no_later (Some b) e none = λ second is. absurd (cc (none, is))
+  among_more : (es : List (List ℕ × Marks)) (newest : Option Finish) (e : List ℕ × Marks)
+      → IsAmong es newest → IsAmong (es ++ e ∷ []) newest
+  among_more es None e among = tt
+  among_more es (Some b) e (m, has, is) =
+      (m, Contains-append_left es (e ∷ []) (b.1, m) has, is)
 
-module _ (es : List (List ℕ × Marks)) (n : List ℕ) (m : Marks) where
-  -- where this one is the newest so far
-  newest_here : (second : ℕ) → m.manifest ≡ Some second
-      → AllByRecursion (IsNoLater (Some (second, n))) es
-      → IsNewestOf (es ++ (n, m) ∷ []) (Some (second, n))
-  newest_here second is all = record {
-    among = (m, Contains-push es (n, m), is);
-    last = all_push (IsNoLater (Some (second, n))) es (n, m) all
-        (λ other same.
-        let e = same_Some other second (sym same ∙ is) in
-        subst (λ s. is_later (s, n) (second, n) ≡ false) (sym e) (not_itself (second, n)));
-  }
+  unfinished_no_later : (newest : Option Finish) (e : List ℕ × Marks) → second_of e ≡ None
+      → IsNoLater newest e
+  unfinished_no_later None e none = none
+  unfinished_no_later (Some b) e none = λ second is. absurd (cc (none, is))
 
-  -- where one before is at least as new
-  newest_still : (b : Finish) (second : ℕ) → m.manifest ≡ Some second
-      → is_later (second, n) b ≡ false → IsNewestOf es (Some b)
-      → IsNewestOf (es ++ (n, m) ∷ []) (Some b)
-  newest_still b second is isnt old = record {
-    among = among_more es (Some b) (n, m) old.among;
-    last = all_push (IsNoLater (Some b)) es (n, m) old.last
-        (λ other same.
-        let e = same_Some other second (sym same ∙ is) in
-        subst (λ s. is_later (s, n) b ≡ false) (sym e) isnt);
-  }
+  module _ (es : List (List ℕ × Marks)) (n : List ℕ) (m : Marks) where
+    -- where this one is the newest so far
+    newest_here : (second : ℕ) → second_of (n, m) ≡ Some second
+        → AllByRecursion (IsNoLater (Some (second, n))) es
+        → IsNewestOf (es ++ (n, m) ∷ []) (Some (second, n))
+    newest_here second is all = record {
+      among = (m, Contains-push es (n, m), is);
+      last = all_push (IsNoLater (Some (second, n))) es (n, m) all
+          (λ other same.
+          let e = same_Some other second (sym same ∙ is) in
+          subst (λ s. is_later (s, n) (second, n) ≡ false) (sym e) (not_itself (second, n)));
+    }
 
-  newest_next : (newest : Option Finish) (second : ℕ) → m.manifest ≡ Some second
-      → IsNewestOf es newest
-      → IsNewestOf (es ++ (n, m) ∷ []) (Some (later_of (second, n) newest))
-  newest_next None second is old =
-      newest_here second is
-      (all_with (IsNoLater None) (IsNoLater (Some (second, n)))
-      (λ e none. unfinished_no_later (Some (second, n)) e none) es old.last)
-  newest_next (Some b) second is old = go (is_later b (second, n)) refl
-    where
-      go : (t : Bool) → is_later b (second, n) ≡ t
-          → IsNewestOf (es ++ (n, m) ∷ []) (Some (cond t b (second, n)))
-      go true later = newest_still b second is (not_back (second, n) b later) old
-      go false later =
-          newest_here second is
-          (all_with (IsNoLater (Some b)) (IsNoLater (Some (second, n)))
-          (λ e isnt s finished.
-          upto finish_total (s, e.0) b (second, n) (isnt s finished) later) es old.last)
+    -- where one before is at least as new
+    newest_still : (b : Finish) (second : ℕ) → second_of (n, m) ≡ Some second
+        → is_later (second, n) b ≡ false → IsNewestOf es (Some b)
+        → IsNewestOf (es ++ (n, m) ∷ []) (Some b)
+    newest_still b second is isnt old = record {
+      among = among_more es (Some b) (n, m) old.among;
+      last = all_push (IsNoLater (Some b)) es (n, m) old.last
+          (λ other same.
+          let e = same_Some other second (sym same ∙ is) in
+          subst (λ s. is_later (s, n) b ≡ false) (sym e) isnt);
+    }
 
-  -- with one more that was found
-  pub newest_more : (newest : Option Finish) → IsNewestOf es newest
-      → IsNewestOf (es ++ (n, m) ∷ []) (with_found newest n m.manifest)
-  newest_more newest old = go m.manifest refl
-    where
-      go : (o : Option ℕ) → m.manifest ≡ o
-          → IsNewestOf (es ++ (n, m) ∷ []) (with_found newest n o)
-      go None is = record {
-        among = among_more es newest (n, m) old.among;
-        last = all_push (IsNoLater newest) es (n, m) old.last
-            (unfinished_no_later newest (n, m) is);
-      }
-      go (Some second) is = newest_next newest second is old
+    newest_next : (newest : Option Finish) (second : ℕ) → second_of (n, m) ≡ Some second
+        → IsNewestOf es newest
+        → IsNewestOf (es ++ (n, m) ∷ []) (Some (later_of (second, n) newest))
+    newest_next None second is old =
+        newest_here second is
+        (all_with (IsNoLater None) (IsNoLater (Some (second, n)))
+        (λ e none. unfinished_no_later (Some (second, n)) e none) es old.last)
+    newest_next (Some b) second is old = go (is_later b (second, n)) refl
+      where
+        go : (t : Bool) → is_later b (second, n) ≡ t
+            → IsNewestOf (es ++ (n, m) ∷ []) (Some (cond t b (second, n)))
+        go true later = newest_still b second is (not_back (second, n) b later) old
+        go false later =
+            newest_here second is
+            (all_with (IsNoLater (Some b)) (IsNoLater (Some (second, n)))
+            (λ e isnt s finished.
+            upto finish_total (s, e.0) b (second, n) (isnt s finished) later) es old.last)
+
+    -- with one more that was found
+    pub newest_more : (newest : Option Finish) → IsNewestOf es newest
+        → IsNewestOf (es ++ (n, m) ∷ []) (with_found newest n (outside but n m.manifest))
+    newest_more newest old = go (second_of (n, m)) refl
+      where
+        go : (o : Option ℕ) → second_of (n, m) ≡ o
+            → IsNewestOf (es ++ (n, m) ∷ []) (with_found newest n o)
+        go None is = record {
+          among = among_more es newest (n, m) old.among;
+          last = all_push (IsNoLater newest) es (n, m) old.last
+              (unfinished_no_later newest (n, m) is);
+        }
+        go (Some second) is = newest_next newest second is old
 
 -- ---- by look-ups
 
@@ -164,34 +171,48 @@ marks_found : (o : Option Marks) (second : ℕ) → found_second Manifest o ≡ 
 marks_found None second is = absurd (cc)
 marks_found (Some m) second is = (m, refl, is)
 
-module _ (found : BTreeMap (List ℕ) Marks) (ordered : IsOrdered name_cmp found) where
-  -- an entry of the map that is finished
-  entry_found : (n : List ℕ) (second : ℕ)
-      → found_second Manifest (lookup name_cmp found n) ≡ Some second
-      → (m : Marks) × Contains found.entries (n, m) × (m.manifest ≡ Some second)
-  entry_found n second is =
-      let (m, there, finished) = marks_found (lookup name_cmp found n) second is in
-      (m, (btree_map_get_iff nat_list_cmp_total exact_bytes found ordered n m).0 there, finished)
+-- a second outside is that of the entry, whose name isn't one of these
+pub is_outside : (but : BTreeSet (List ℕ)) (n : List ℕ) (second : Option ℕ) (s : ℕ) (t : Bool)
+    → contains name_cmp but n ≡ t → cond t None second ≡ Some s
+    → (contains name_cmp but n ≡ false) × (second ≡ Some s)
+is_outside but n second s true e is = absurd (cc)
+is_outside but n second s false e is = (e, is)
+
+module _ (found : BTreeMap (List ℕ) Marks) (but : BTreeSet (List ℕ))
+    (ordered : IsOrdered name_cmp found) where
+  -- an entry of the map that is finished, and whose name isn't one of these
+  entry_found : (a : Finish) → IsFinishedOutside found but a
+      → (m : Marks) × Contains found.entries (a.1, m) × (second_of but (a.1, m) ≡ Some a.0)
+  entry_found a (isnt, is) =
+      let (m, there, finished) = marks_found (lookup name_cmp found a.1) a.0 is in (
+        m,
+        (btree_map_get_iff nat_list_cmp_total exact_bytes found ordered a.1 m).0 there,
+        ap (λ t. cond t None m.manifest) isnt ∙ finished,
+      )
 
   at_entry : (P : List ℕ × Marks → Type 0) → AllByRecursion P found.entries
       → (e : List ℕ × Marks) → Contains found.entries e → P e
   at_entry P all e has =
       All-contains P found.entries e (All-from_recursion P found.entries all) has
 
-  pub newest_found_is : (newest : Option Finish) → IsNewestOf found.entries newest
-      → IsNewestFound found newest
-  newest_found_is None is = λ n second finished.
-      let (m, has, stands) = entry_found n second finished in
-      let none = at_entry (IsNoLater None) is.last (n, m) has in
+  pub newest_found_is : (newest : Option Finish) → IsNewestOf but found.entries newest
+      → IsNewestFound found but newest
+  newest_found_is None is = λ a finished.
+      let (m, has, stands) = entry_found a finished in
+      let none = at_entry (IsNoLater but None) is.last (a.1, m) has in
       absurd (cc (none, stands))
   newest_found_is (Some b) is = (
     let (m, has, stands) = is.among in
-        ap (found_second Manifest)
-        ((btree_map_get_iff nat_list_cmp_total exact_bytes found ordered b.1 m).1 has)
-        ∙ stands,
-    λ n second finished.
-        let (m, has, stands) = entry_found n second finished in
-        at_entry (IsNoLater (Some b)) is.last (n, m) has second stands,
+        let (isnt, second) = is_outside but b.1 m.manifest b.0 (contains name_cmp but b.1) refl stands
+        in (
+          isnt,
+          ap (found_second Manifest)
+              ((btree_map_get_iff nat_list_cmp_total exact_bytes found ordered b.1 m).1 has)
+              ∙ second,
+        ),
+    λ a finished.
+        let (m, has, stands) = entry_found a finished in
+        at_entry (IsNoLater but (Some b)) is.last (a.1, m) has a.0 stands,
   )
 
 -- ---- the last of a list

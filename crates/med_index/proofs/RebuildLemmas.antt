@@ -1,5 +1,5 @@
 -- What a rebuild plans becomes the changes that make the index just what the backups give.
-use Rattle.std.proofs.Common.{◌≡◌, ◌∙◌, ◌⊎◌, ◌&&◌, inl, inr, ℕ, Bool, true, false, true≢false, cond, not, List, [], ◌∷◌, ◌++◌, map, filter, Vec, Option, Some, None, option_map, is_some, IfSome, T, bytes_eq, refl, sym, ap, subst, append_assoc, append-nil}
+use Rattle.std.proofs.Common.{◌≡◌, ◌∙◌, ◌&&◌, ℕ, Bool, true, false, true≢false, cond, not, List, [], ◌∷◌, ◌++◌, map, filter, Vec, Option, Some, None, option_map, is_some, T, bytes_eq, refl, sym, ap, subst, append_assoc, append-nil}
 use Rattle.std.proofs.lemmas.Option.{same_Some}
 use Rattle.std.proofs.lemmas.List.Elements.{recursion_from_All}
 use Rattle.std.proofs.lemmas.Map.Lookups.{exact_bytes}
@@ -30,10 +30,10 @@ use Rattle.med_manifest.proofs.Gets.{cmp_itself, from_same, same_itself}
 use Rattle.med_manifest.proofs.Givens.{entries_given, given_entries}
 use Rattle.med_manifest.proofs.Members.{get_kept}
 use Rattle.med_index.specs.Given.{AreRightly, AreSizes, Given, WasGiven, bytes_to_put, size_in, unless_stands}
-use Rattle.med_index.specs.Planned.{ArePlanned, IsPlannedAs}
+use Rattle.med_index.specs.Planned.{ArePlanned}
 use Rattle.med_index.specs.Plans.{deletes_of, delete_unless, put_of, puts_of}
 use Rattle.med_index.specs.declared.changes.Planned.{Planned}
-use Rattle.med_index.specs.declared.changes.Planned.TheVariants.{Put, Delete}
+use Rattle.med_index.specs.declared.changes.Planned.TheVariants.{Delete}
 use Rattle.med_index.proofs.PlanLemmas.{planned_apart}
 
 abbrev by : List ℕ → List ℕ → Ordering

@@ -1,5 +1,5 @@
 -- What a rebuild plans and makes, from one call to the next.
-use Rattle.std.proofs.Common.{◌≡◌, ◌∙◌, ◌⊎◌, inl, inr, ◌+◌, ℕ, Bool, true, false, cond, List, [], ◌∷◌, ◌++◌, Vec, Option, Some, None, IfSome, Result, Ok, Err, is_some, refl, sym, ap, subst}
+use Rattle.std.proofs.Common.{◌≡◌, ◌∙◌, ◌⊎◌, inl, inr, ◌+◌, ℕ, Bool, true, false, cond, List, [], ◌∷◌, ◌++◌, Vec, Option, Some, None, IfSome, Ok, Err, is_some, refl, sym, ap, subst}
 use Rattle.std.proofs.lemmas.List.Elements.{recursion_from_All}
 use Rattle.std.proofs.lemmas.Map.Views.{All-found}
 use Rattle.std.specs.declared.alloc.Global.{Global}
@@ -26,8 +26,8 @@ use Rattle.med_index.specs.declared.report.IndexReport.{IndexReport}
 use Rattle.med_index.specs.Errors.{as_index_error}
 use Rattle.med_index.specs.Gathered.{IsGathered, TellsUnread}
 use Rattle.med_index.specs.Given.{AreOfNode, Given}
-use Rattle.med_index.specs.Planned.{ArePlanned, IsOfIndexPlan, IsPlannedAs, planned_path}
-use Rattle.med_index.specs.Plans.{agrees, count_of, delete_unless, deletes_of, is_put, put_of, puts_of}
+use Rattle.med_index.specs.Planned.{ArePlanned, IsOfIndexPlan}
+use Rattle.med_index.specs.Plans.{count_of, deletes_of, puts_of}
 use Rattle.med_index.specs.Rebuilt.{AnswersRebuild, AreOfIndex, IsOfIndex, IsRebuild, Reports, removals, stores}
 use Rattle.med_index.proofs.PlanLemmas.{same_path}
 use Rattle.med_index.proofs.RebuildLemmas.{rebuilt}

@@ -1,5 +1,5 @@
 -- The sizes of the entries of a node, as a listing has them.
-use Rattle.std.proofs.Common.{◌≡◌, ◌∙◌, ◌⊎◌, inl, inr, ℕ, Bool, true, false, true≢false, cond, List, [], ◌∷◌, ◌++◌, map, filter, codes, Option, Some, None, option_map, IfSome, length, bytes_eq, refl, sym, ap, subst, append_assoc}
+use Rattle.std.proofs.Common.{◌≡◌, ◌∙◌, inl, inr, ℕ, Bool, true, false, true≢false, cond, List, [], ◌∷◌, ◌++◌, map, filter, codes, Option, Some, None, option_map, IfSome, length, refl, sym, ap, subst, append_assoc}
 use Rattle.std.proofs.lemmas.Option.{same_Some}
 use Rattle.std.specs.BTreeMap.{BTreeMap, Updates, get}
 use Rattle.std.specs.FinMap as finite
@@ -16,7 +16,6 @@ use Rattle.med_manifest.specs.Rebuild.{is_entry_of_node}
 use Rattle.med_outside.specs.Storage.{entry_of, listing}
 use Rattle.med_outside.specs.declared.storage.Entry.{Entry}
 use Rattle.med_index.specs.Given.{AreOfNode, AreSizes, AreSizesFound, IsSizedEntry, IsSizing, size_in}
-use Rattle.med_index.specs.Visits.{IsToCome}
 use Rattle.med_index.proofs.EntryListing.{entry_built}
 use Rattle.med_index.proofs.Finding.{nothing_got, put_cases}
 use Rattle.med_index.proofs.Listings.{AreIn, all_in, to_come}

@@ -1,5 +1,6 @@
 -- All that a rebuild reads of a node, and what it says of a manifest that doesn't read.
 use Rattle.std.specs.Prelude.{◌≡◌, ℕ, List, [], Some}
+use Rattle.std.specs.BTreeSet.{BTreeSet}
 use Rattle.std.specs.BTreeMap.{BTreeMap, IsOrdered}
 use Rattle.med_base.specs.Classify.{kind_of}
 use Rattle.med_base.specs.Content.{Content}
@@ -9,6 +10,7 @@ use Rattle.med_manifest.specs.Reads.{DoAllRead}
 use Rattle.med_index.specs.declared.errors.IndexError.{IndexError}
 use Rattle.med_index.specs.declared.errors.IndexError.TheVariants.{BadManifest, Store, Memory}
 use Rattle.med_index.specs.declared.marks.Marks.{Marks}
+use Rattle.med_index.specs.Marks.{IsSetOf}
 use Rattle.med_index.specs.Given.{AreRightly, AreSizes, Given, WasGiven}
 use Rattle.med_index.specs.Manifests.{AreManifestsOf, AreRead, Manifests}
 use Rattle.med_index.specs.Rebuilt.{IsFirstBad}
@@ -20,10 +22,12 @@ use Rattle.med_index.specs.Rebuilt.{IsFirstBad}
 pub record ReadsAll (before f : List ℕ) (c : Content) (found : BTreeMap (List ℕ) Marks)
     (old new : Given) : Type 0
   where
+    pub none : BTreeSet (List ℕ)
+    pub none_is : IsSetOf [] none
     pub manifests : Manifests
     pub rising : IsOrdered name_cmp manifests
     pub ordered : IsOrdered name_cmp found
-    pub of_found : AreManifestsOf before f found found.entries manifests
+    pub of_found : AreManifestsOf before f found none found.entries manifests
     pub reads : AreRead before f c manifests.entries old new
 
 -- what the backups of the node give was gathered, and the sizes of the entries that stand

@@ -1,26 +1,24 @@
 -- The entries that the backups of a node give to its index, as far as they were found.
-use Rattle.std.specs.Prelude.{◌≡◌, ◌⊎◌, ◌++◌, ℕ, Bool, true, List, [], ◌∷◌, Vec, Option, Some, None, option_map, is_some, length, bytes_eq, if◌then◌else◌, IfSome}
+use Rattle.std.specs.Prelude.{◌≡◌, ◌⊎◌, ℕ, true, List, [], Vec, Option, Some, None, option_map, is_some, length, bytes_eq, if◌then◌else◌, IfSome}
 use Rattle.std.specs.declared.alloc.Global.{Global}
 use Rattle.std.specs.BTreeMap.{BTreeMap, Updates, get}
 use Rattle.std.specs.FinMap as finite
 use Rattle.std.specs.List.{AllByRecursion}
 use Rattle.med_base.specs.declared.kinds.IndexKind.{IndexKind}
 use Rattle.med_base.specs.declared.kinds.IndexKind.TheVariants as entry
-use Rattle.med_base.specs.declared.layout.MetaKind.{MetaKind}
-use Rattle.med_base.specs.declared.layout.MetaKind.TheVariants.{Manifest, Tokenmap}
+use Rattle.med_base.specs.declared.layout.MetaKind.TheVariants.{Tokenmap}
 use Rattle.med_base.specs.Classify.{kind_of}
 use Rattle.med_base.specs.Content.{Content, Object}
-use Rattle.med_base.specs.Kinds.{Kind, Entry as IndexEntry, Meta}
+use Rattle.med_base.specs.Kinds.{Entry as IndexEntry}
 use Rattle.med_base.specs.Layout.{entry_path, meta_path}
 use Rattle.med_base.specs.NameOrder.{name_cmp}
 use Rattle.med_manifest.specs.Index.{given, given_to}
 use Rattle.med_manifest.specs.Mend.{has_bytes}
 use Rattle.med_manifest.specs.Rebuild.{is_entry_of_node}
-use Rattle.med_manifest.specs.Vault.{second_of}
 use Rattle.med_outside.specs.Storage.{AnswersBytes}
 use Rattle.med_outside.specs.declared.storage.Entry.{Entry}
 use Rattle.med_index.specs.declared.marks.Marks.{Marks}
-use Rattle.med_index.specs.Marks.{mark_of, start_of}
+use Rattle.med_index.specs.Marks.{start_of}
 use Rattle.med_index.specs.Visits.{AreFound, IsToCome}
 
 -- ---- for this crate's own clauses

@@ -1,13 +1,14 @@
 -- The manifests of the finished backups of a node, as far as they were read.
-use Rattle.std.specs.Prelude.{◌≡◌, ◌++◌, ℕ, List, [], ◌∷◌, Option, Some, None, IfSome}
+use Rattle.std.specs.Prelude.{◌≡◌, ◌++◌, ℕ, List, ◌∷◌, Option, Some, None, IfSome}
 use Rattle.std.specs.BTreeMap.{BTreeMap, Updates, get}
+use Rattle.std.specs.BTreeSet.{BTreeSet}
 use Rattle.std.specs.FinMap as finite
 use Rattle.std.specs.List.{AllByRecursion}
 use Rattle.med_base.specs.declared.kinds.IndexKind.TheVariants as entry
 use Rattle.med_base.specs.declared.layout.MetaKind.TheVariants.{Manifest}
 use Rattle.med_base.specs.Classify.{kind_of}
 use Rattle.med_base.specs.Content.{Content, Object}
-use Rattle.med_base.specs.Kinds.{Kind, Meta}
+use Rattle.med_base.specs.Kinds.{Meta}
 use Rattle.med_base.specs.Layout.{entry_path, meta_path}
 use Rattle.med_base.specs.NameOrder.{name_cmp}
 use Rattle.med_manifest.specs.declared.manifest.FileRecord.{FileRecord}
@@ -19,6 +20,7 @@ use Rattle.med_outside.specs.Storage.{AnswersBytes}
 use Rattle.med_index.specs.declared.errors.IndexError.{IndexError}
 use Rattle.med_index.specs.declared.errors.IndexError.TheVariants.{BadManifest, Store, Memory}
 use Rattle.med_index.specs.declared.marks.Marks.{Marks}
+use Rattle.med_index.specs.Planned.{outside}
 use Rattle.med_index.specs.Given.{Given, Grows, IsCopyNoted, IsFoundAs, WasGiven}
 
 -- ---- for this crate's own clauses
@@ -34,31 +36,32 @@ IsManifestNoted before f n (Some second) old new =
     (kind_of before (meta_path before f n Manifest) ≡ Meta f n Manifest)
     × Updates name_cmp old new (meta_path before f n Manifest) (Some n)
 
--- the path is that of the manifest of the backup, which was found
-pub record IsNamed (before f : List ℕ) (found : BTreeMap (List ℕ) Marks) (path n : List ℕ)
-    : Type 0
+-- the path is that of the manifest of the backup, which was found and isn't among some names
+pub record IsNamed (before f : List ℕ) (found : BTreeMap (List ℕ) Marks) (but : BTreeSet (List ℕ))
+    (path n : List ℕ) : Type 0
   where
     pub path_is : path ≡ meta_path before f n Manifest
     pub kind_is : kind_of before path ≡ Meta f n Manifest
     pub marks : Marks
     pub second : ℕ
     pub got : get name_cmp found n ≡ Some marks
-    pub finished : marks.manifest ≡ Some second
+    pub finished : outside but n marks.manifest ≡ Some second
 
--- these are the manifests of the finished ones of these backups
+-- these are the manifests of the finished ones of these backups that aren't among some names
 pub record AreManifestsOf (before f : List ℕ) (found : BTreeMap (List ℕ) Marks)
-    (es : List (List ℕ × Marks)) (m : Manifests) : Type 0
+    (but : BTreeSet (List ℕ)) (es : List (List ℕ × Marks)) (m : Manifests) : Type 0
   where
-    pub named : (path n : List ℕ) → get name_cmp m path ≡ Some n → IsNamed before f found path n
+    pub named : (path n : List ℕ) → get name_cmp m path ≡ Some n
+        → IsNamed before f found but path n
     pub all : AllByRecursion
-        (λ (e : List ℕ × Marks). (second : ℕ) → e.1.manifest ≡ Some second
+        (λ (e : List ℕ × Marks). (second : ℕ) → outside but e.0 e.1.manifest ≡ Some second
         → get name_cmp m (meta_path before f e.0 Manifest) ≡ Some e.0) es
 
 -- the same, where these backups were found
-abbrev pub AreManifests : List ℕ → List ℕ → BTreeMap (List ℕ) Marks → List (List ℕ × Marks)
-    → Manifests → Type 0
-AreManifests before f found es m =
-    AllByRecursion (IsFoundAs found) es → AreManifestsOf before f found es m
+abbrev pub AreManifests : List ℕ → List ℕ → BTreeMap (List ℕ) Marks → BTreeSet (List ℕ)
+    → List (List ℕ × Marks) → Manifests → Type 0
+AreManifests before f found but es m =
+    AllByRecursion (IsFoundAs found) es → AreManifestsOf before f found but es m
 
 -- the path is that of the manifest of the backup
 abbrev pub IsManifestPath : List ℕ → List ℕ → List ℕ → List ℕ → Type 0

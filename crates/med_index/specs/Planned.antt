@@ -1,6 +1,7 @@
 -- Changes of the index that are to be made, and the changes that they become.
-use Rattle.std.specs.Prelude.{◌≡◌, ◌≢◌, ◌++◌, ℕ, false, List, Option, Some, None, option_map}
+use Rattle.std.specs.Prelude.{◌≡◌, ◌≢◌, ◌++◌, ℕ, false, List, Option, Some, None, if◌then◌else◌, option_map}
 use Rattle.std.specs.BTreeMap.{BTreeMap, get as lookup}
+use Rattle.std.specs.BTreeSet.{BTreeSet, contains}
 use Rattle.std.specs.FinMap.{get}
 use Rattle.std.specs.List.{AllZip}
 use Rattle.med_base.specs.declared.kinds.LatestKind.TheVariants as latest
@@ -75,12 +76,21 @@ abbrev pub with_found : Option (ℕ × List ℕ) → List ℕ → Option ℕ →
 with_found newest n None = newest
 with_found newest n (Some second) = Some (later_of (second, n) newest)
 
--- the newest finished backup of those that were found, with the second of its manifest
-abbrev pub IsNewestFound : BTreeMap (List ℕ) Marks → Option (ℕ × List ℕ) → Type 0
-IsNewestFound found None =
-    (n : List ℕ) (second : ℕ) → found_second Manifest (lookup name_cmp found n) ≡ Some second → ⊥
-IsNewestFound found (Some b) =
-    (found_second Manifest (lookup name_cmp found b.1) ≡ Some b.0)
-    × ((n : List ℕ) (second : ℕ)
-    → found_second Manifest (lookup name_cmp found n) ≡ Some second
-    → is_later (second, n) b ≡ false)
+-- the second of the manifest that was found of a backup, if its name isn't one of these
+abbrev pub outside : BTreeSet (List ℕ) → List ℕ → Option ℕ → Option ℕ
+outside but n second = if contains name_cmp but n then None else second
+
+-- the second of the manifest that was found of a backup whose name isn't one of these
+abbrev pub IsFinishedOutside : BTreeMap (List ℕ) Marks → BTreeSet (List ℕ) → ℕ × List ℕ → Type 0
+IsFinishedOutside found but b =
+    (contains name_cmp but b.1 ≡ false)
+    × (found_second Manifest (lookup name_cmp found b.1) ≡ Some b.0)
+
+-- the newest finished backup of those that were found and aren't among these names, with the second
+-- of its manifest
+abbrev pub IsNewestFound : BTreeMap (List ℕ) Marks → BTreeSet (List ℕ) → Option (ℕ × List ℕ)
+    → Type 0
+IsNewestFound found but None = (a : ℕ × List ℕ) → IsFinishedOutside found but a → ⊥
+IsNewestFound found but (Some b) =
+    IsFinishedOutside found but b
+    × ((a : ℕ × List ℕ) → IsFinishedOutside found but a → is_later a b ≡ false)

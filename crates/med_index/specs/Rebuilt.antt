@@ -3,7 +3,6 @@
 use Rattle.std.specs.Prelude.{◌≡◌, ◌⊎◌, ◌+◌, ℕ, List, [], ◌∷◌, Some, Option, IfSome, Result, Ok, Err}
 use Rattle.std.specs.FinMap.{get}
 use Rattle.std.specs.List.{AllByRecursion}
-use Rattle.med_base.specs.declared.kinds.LatestKind.{LatestKind}
 use Rattle.med_base.specs.Classify.{kind_of}
 use Rattle.med_base.specs.Content.{Content, Object}
 use Rattle.med_base.specs.Effects.{Effect, Stores, Removes}

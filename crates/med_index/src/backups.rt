@@ -13,8 +13,8 @@ ghost use Rattle.med_index.specs.Visits.{AreFound};
 use crate::ListError;
 use crate::marks::Marks;
 use crate::meta::meta_at;
+use crate::pages::{Visitor, walk};
 use crate::running::set_of;
-use crate::walk::{Visitor, walk};
 use med_base::{BackupName, Fqdn, Layout, MetaKind, NameError, NoMemory};
 use med_outside::{BackupRow, Entry, Storage};
 use std::alloc::Global;
@@ -63,6 +63,10 @@ fn note(
 
 impl Visitor for Backups<'_> {
     ghost use Rattle.med_index.specs.Visits.{AreFound};
+
+    ghost Terms = { Unit {0} };
+
+    ghost terms = { λ _. tt };
 
     ghost found = { λ b before f c rest. AreFound b.node.now b.found before f c rest };
 
@@ -124,8 +128,9 @@ fn sort_rows(rows: &mut Vec<BackupRow>)
     rows.sort_unstable_by(row_order);
 }
 
-/// What is found of the backups of the node.
-pub(crate) fn find_backups<S: Storage>(
+/// What is found of the backups of the node, by their names. The bucket is only read; `Store` comes
+/// only where its count of faults rose.
+pub fn find_backups<S: Storage>(
     alloc: Global,
     store: &mut S,
     layout: &Layout,

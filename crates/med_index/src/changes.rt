@@ -15,7 +15,7 @@ use std::alloc::Global;
 
 /// A change of the index that is to be made.
 #[derive(Drop)]
-pub(crate) enum Planned {
+pub enum Planned {
     /// An object is stored.
     Put { path: ObjPath, bytes: Vec<u8> },
     /// No object has the path.

@@ -9,8 +9,9 @@ ghost use Rattle.med_index.specs.Visits.{AreFound};
 use crate::IndexError;
 use crate::given::{Given, Sizes, give_rests};
 use crate::listed::sizes_of;
-use crate::manifests::{manifests_of, read_manifests};
+use crate::manifests::{manifests_outside, read_manifests};
 use crate::marks::Marks;
+use crate::running::no_names;
 use med_base::{BackupName, Fqdn, Layout, NoMemory};
 use med_outside::Storage;
 use std::alloc::Global;
@@ -47,7 +48,8 @@ fn read_all<S: Storage>(
         (S.stood store.new) }
     ensures cause { HasIndexCause (S.state store.old).faults (S.state store.new).faults result }
 {
-    let manifests = match manifests_of(alloc, layout, node, found) {
+    let none = no_names(alloc);
+    let manifests = match manifests_outside(alloc, layout, node, found, &none) {
         Ok(manifests) => manifests,
         Err(NoMemory) => return Err(IndexError::Memory),
     };

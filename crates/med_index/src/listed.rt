@@ -11,7 +11,7 @@ ghost use Rattle.med_index.specs.Listed.{IsEntryOfBackup};
 
 use crate::ListError;
 use crate::given::Sizes;
-use crate::walk::{Visitor, walk};
+use crate::pages::{Visitor, walk};
 use med_base::{BackupName, Fqdn, Layout, NoMemory, ObjPath, PathKind};
 use med_outside::{Entry, Storage};
 use std::alloc::Global;
@@ -40,6 +40,10 @@ fn is_entry(layout: &Layout, node: &Fqdn, name: &BackupName, path: &ObjPath) -> 
 
 impl Visitor for Kept<'_> {
     ghost use Rattle.med_index.specs.Listed.{AreKept, IsKeeping};
+
+    ghost Terms = { Unit {0} };
+
+    ghost terms = { λ _. tt };
 
     ghost found = { λ k before f c rest.
         AreKept k.node.now k.name.now k.paths.items before c rest };
@@ -106,6 +110,10 @@ fn is_node_entry(layout: &Layout, node: &Fqdn, path: &ObjPath) -> bool
 
 impl Visitor for Sized<'_> {
     ghost use Rattle.med_index.specs.Given.{AreSizesFound, IsSizing};
+
+    ghost Terms = { Unit {0} };
+
+    ghost terms = { λ _. tt };
 
     ghost found = { λ s before f c rest. AreSizesFound before s.node.now c s.sizes rest };
 

@@ -11,30 +11,31 @@ use crate::IndexError;
 use crate::given::{Given, give_copy};
 use crate::marks::Marks;
 use crate::mend::read;
+use crate::newest::second_outside;
 use med_base::{BackupName, Fqdn, IndexKind, Layout, MetaKind, NoMemory, ObjPath, OrMemory};
 use med_manifest::Manifest;
 use med_outside::Storage;
 use std::alloc::Global;
-use std::collections::BTreeMap;
+use std::collections::{BTreeMap, BTreeSet};
 
 /// The manifests of the finished backups that were found, by their paths, each with the name of its
 /// backup.
-pub(crate) type Manifests = BTreeMap<ObjPath, BackupName>;
+pub type Manifests = BTreeMap<ObjPath, BackupName>;
 
-// Notes the manifest of a backup, if the backup is finished.
+// Notes the manifest of a backup, if there is one, by its second.
 fn note_manifest(
     alloc: Global,
     layout: &Layout,
     node: &Fqdn,
     name: &BackupName,
-    marks: Marks,
+    second: Option<u64>,
     manifests: &mut Manifests,
 ) -> Result<(), NoMemory>
     ensures { OnOk result
-        (IsManifestNoted layout.now node.now name.now marks.manifest manifests.old
+        (IsManifestNoted layout.now node.now name.now second manifests.old
         manifests.new) }
 {
-    if marks.manifest.is_none() {
+    if second.is_none() {
         return Ok(());
     }
     let path = layout.meta(alloc, node, name, MetaKind::Manifest)?;
@@ -43,20 +44,22 @@ fn note_manifest(
     Ok(())
 }
 
-/// The manifests of the finished backups among those that were found.
-pub(crate) fn manifests_of(
+/// The manifests of the finished backups of those that were found and aren't among some names.
+pub fn manifests_outside(
     alloc: Global,
     layout: &Layout,
     node: &Fqdn,
     found: &BTreeMap<BackupName, Marks>,
+    but: &BTreeSet<BackupName>,
 ) -> Result<Manifests, NoMemory>
     ensures manifests { IfOk result
-        (AreManifests layout.now node.now found.now found.now.entries) }
+        (AreManifests layout.now node.now found.now but.now found.now.entries) }
     ensures order { OnOk result (IsOrdered name_cmp found.now) }
 {
     let mut manifests = BTreeMap::new(alloc);
     for (name, marks) in found {
-        note_manifest(alloc, layout, node, name, *marks, &mut manifests)?;
+        let second = second_outside(name, *marks, but);
+        note_manifest(alloc, layout, node, name, second, &mut manifests)?;
     }
     Ok(manifests)
 }

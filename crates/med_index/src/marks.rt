@@ -8,11 +8,11 @@ use med_outside::Mode;
 
 /// The seconds of the objects that tell of a backup, of those that were found.
 #[derive(Clone, Copy)]
-pub(crate) struct Marks {
-    pub(crate) schema: Option<u64>,
-    pub(crate) differential: Option<u64>,
-    pub(crate) tokenmap: Option<u64>,
-    pub(crate) manifest: Option<u64>,
+pub struct Marks {
+    pub schema: Option<u64>,
+    pub differential: Option<u64>,
+    pub tokenmap: Option<u64>,
+    pub manifest: Option<u64>,
 }
 
 // The least of the two.

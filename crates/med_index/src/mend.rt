@@ -13,6 +13,7 @@ ghost use Rattle.med_outside.specs.State.{IsReady, OnlyReads};
 ghost use Rattle.med_outside.specs.Storage.{AnswersBytes};
 ghost use Rattle.med_index.specs.declared.errors.ListError.TheVariants.{Store};
 ghost use Rattle.med_index.specs.Errors.{HasStoreCause};
+ghost use Rattle.med_index.specs.Marks.{IsSetOf};
 ghost use Rattle.med_index.specs.Planned.{ArePlanned, IsChangeTo, IsOfLatestPlan, IsPlanOf, latest_to};
 ghost use Rattle.med_index.specs.Rebuilt.{IsMend};
 ghost use Rattle.med_index.specs.Visits.{AreFound};
@@ -22,10 +23,11 @@ use crate::backups::find_backups;
 use crate::changes::{Planned, apply_all};
 use crate::marks::Marks;
 use crate::newest::newest_found;
+use crate::running::no_names;
 use med_base::{BackupName, Fqdn, LatestKind, Layout, MetaKind, NoMemory, ObjPath};
 use med_outside::{Denied, Storage, Trace};
 use std::alloc::Global;
-use std::collections::BTreeMap;
+use std::collections::{BTreeMap, BTreeSet};
 
 // What is to be done so that an object has these bytes, or doesn't stand.
 fn change_to(
@@ -227,6 +229,35 @@ fn plan_newest<S: Storage>(
     plan_latest(alloc, store, layout, node, name, lent(&ring))
 }
 
+/// What is to be done so that the latest entry of the node tells of the newest finished backup of
+/// those that were found and aren't among some names. The bucket is only read; `Store` comes only
+/// where its count of faults rose.
+pub fn plan_mend_outside<S: Storage>(
+    alloc: Global,
+    store: &mut S,
+    layout: &Layout,
+    node: &Fqdn,
+    found: &BTreeMap<BackupName, Marks>,
+    but: &BTreeSet<BackupName>,
+) -> Result<Vec<Planned>, ListError>
+    requires ready { IsReady layout.now (S.state store.old) }
+    ensures plan { IfOk result
+        (λ plan. IfSome (S.state store.old).content
+        (λ c. AreFound node.now found.now layout.now node.now c [] → (names : List (List ℕ))
+        → IsSetOf names but.now → (xs : List Effect) → ArePlanned plan.items xs
+        → (seconds : ℕ → ℕ) × (xs ≡ changes_of_mend layout.now c node.now names seconds))) }
+    ensures latest { IfOk result
+        (λ plan. AllByRecursion (IsOfLatestPlan layout.now node.now) plan.items) }
+    ensures looks { OnlyReads (S.state store.old) (S.state store.new) (S.stood store.old)
+        (S.stood store.new) }
+    ensures cause { HasStoreCause (S.state store.old).faults (S.state store.new).faults result }
+{
+    match newest_found(found, but) {
+        None => plan_latest(alloc, store, layout, node, None, None),
+        Some((_, name)) => plan_newest(alloc, store, layout, node, name),
+    }
+}
+
 /// What is to be done so that the latest entry of the node tells of the newest finished backup that
 /// was found.
 pub(crate) fn plan_mend<S: Storage>(
@@ -248,10 +279,8 @@ pub(crate) fn plan_mend<S: Storage>(
         (S.stood store.new) }
     ensures cause { HasStoreCause (S.state store.old).faults (S.state store.new).faults result }
 {
-    match newest_found(found) {
-        None => plan_latest(alloc, store, layout, node, None, None),
-        Some((_, name)) => plan_newest(alloc, store, layout, node, name),
-    }
+    let none = no_names(alloc);
+    plan_mend_outside(alloc, store, layout, node, found, &none)
 }
 
 // What is to be done so that the latest entry of the node tells of its newest finished backup.

@@ -10,7 +10,7 @@ ghost use Rattle.med_index.specs.Rows.{AreNodes};
 
 use crate::ListError;
 use crate::meta::meta_at;
-use crate::walk::{Visitor, walk};
+use crate::pages::{Visitor, walk};
 use med_base::{Fqdn, Layout, NameError, NoMemory};
 use med_outside::{Entry, Storage};
 use std::alloc::{AllocError, Global};
@@ -38,6 +38,10 @@ fn note(alloc: Global, found: &mut BTreeMap<Fqdn, ()>, node: &str) -> Result<(),
 
 impl Visitor for Nodes {
     ghost use Rattle.med_index.specs.Visits.{AreNodesFound};
+
+    ghost Terms = { Unit {0} };
+
+    ghost terms = { λ _. tt };
 
     ghost found = { λ n before f c rest. AreNodesFound n.found before c rest };
 

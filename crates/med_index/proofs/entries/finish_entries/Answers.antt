@@ -1,4 +1,4 @@
-use Rattle.std.proofs.Common.{rules, ◌≡◌, [], ◌∷◌, refl, get_or}
+use Rattle.std.proofs.Common.{[], ◌∷◌, refl, get_or}
 use Rattle.med_outside.proofs.Making.{in_turn, cut_short}
 use Rattle.med_index.proofs.entries.finish_entries.Goals as goal
 

@@ -1,4 +1,4 @@
-use Rattle.std.proofs.Common.{rules, ◌≡◌, refl}
+use Rattle.std.proofs.Common.{refl}
 use Rattle.med_outside.proofs.Making.{nothing_yet}
 use Rattle.med_outside.proofs.Passing.{moves_at_rest}
 use Rattle.med_index.proofs.entries.put_mark.Goals as goal

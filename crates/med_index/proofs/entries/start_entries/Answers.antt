@@ -1,4 +1,4 @@
-use Rattle.std.proofs.Common.{rules, ◌≡◌, [], ◌∷◌, refl, get_or, arith}
+use Rattle.std.proofs.Common.{[], ◌∷◌, refl, get_or}
 use Rattle.med_index.proofs.Refusals.{refused_first, refused_second, refused_mark}
 use Rattle.med_index.specs.Modes.{is_differential}
 use Rattle.med_outside.proofs.Making.{in_turn, cut_short, gained_all}

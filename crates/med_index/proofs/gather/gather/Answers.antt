@@ -1,4 +1,4 @@
-use Rattle.std.proofs.Common.{◌≡◌, ◌∙◌, []}
+use Rattle.std.proofs.Common.{◌∙◌, []}
 use Rattle.med_index.specs.Gathered.{TellsUnread}
 use Rattle.med_index.specs.Visits.{AreFound}
 use Rattle.med_index.proofs.GatherSteps.{gathered, nothing_of, told_before}

@@ -1,3 +1,4 @@
+use Rattle.med_index.specs.Planned.{with_found}
 use Rattle.std.proofs.Common.{◌++◌, ℕ, List, [], ◌∷◌, Bor, map, option_map, sym, subst}
 use Rattle.std.proofs.lemmas.List.{map-append}
 use Rattle.std.proofs.lemmas.Map.Iter.{iter_end}
@@ -14,11 +15,15 @@ loop-name-preserved c =
     let n = c.in-Some.name.now in
     let m = c.in-Some.marks.now in
     let before = map deref_pair c.loop-name.yielded in
-    subst (λ es. IsNewestOf es (option_map shown c.with_found-newest.result))
+    subst (λ es. IsNewestOf c.args.but.now es (option_map shown c.with_found-newest.result))
     (sym
     (map-append deref_pair c.loop-name.yielded ((c.in-Some.name, c.in-Some.marks) ∷ [])))
-    (subst (IsNewestOf (before ++ (n, m) ∷ [])) (sym c.with_found-newest.ensures)
-    (newest_more before n m (option_map shown c.loop-name.newest) c.loop-name.invariant))
+    (subst (IsNewestOf c.args.but.now (before ++ (n, m) ∷ [])) (sym c.with_found-newest.ensures)
+    (subst
+    (λ o. IsNewestOf c.args.but.now (before ++ (n, m) ∷ [])
+    (with_found (option_map shown c.loop-name.newest) n o)) (sym c.second_outside.ensures)
+    (newest_more c.args.but.now before n m (option_map shown c.loop-name.newest)
+    c.loop-name.invariant)))
 
 pub returns : goal.returns
 returns c =
@@ -26,6 +31,6 @@ returns c =
     let ended = iter_end deref_pair c.args.found.now.entries c.loop-name.yielded
     c.into_iter-name-iterator.result c.loop-name.name-iterator c.next.new.self c.next.result
     given.0 c.loop-name.yielded_by c.in-None.is c.next.ensures.steps in
-    newest_found_is c.args.found.now given.5 (option_map shown c.loop-name.newest)
-    (subst (λ es. IsNewestOf es (option_map shown c.loop-name.newest)) ended.0
+    newest_found_is c.args.found.now c.args.but.now given.5 (option_map shown c.loop-name.newest)
+    (subst (λ es. IsNewestOf c.args.but.now es (option_map shown c.loop-name.newest)) ended.0
     c.loop-name.invariant)

@@ -1,4 +1,4 @@
-use Rattle.std.proofs.Common.{rules, ◌≡◌, ◌∙◌, [], ◌∷◌, refl, ap, arith, inr}
+use Rattle.std.proofs.Common.{◌∙◌, [], ◌∷◌, refl, ap, arith, inr}
 use Rattle.med_base.specs.Classify.{is_data, is_data_kind}
 use Rattle.med_base.specs.Effects.{Stores}
 use Rattle.med_base.specs.Layout.{entry_path}

@@ -1,4 +1,4 @@
-use Rattle.std.proofs.Common.{◌≡◌, ◌∙◌, ℕ, List, [], IfSome}
+use Rattle.std.proofs.Common.{◌≡◌, ◌∙◌, ℕ, List, []}
 use Rattle.med_base.specs.Effects.{Effect}
 use Rattle.med_manifest.specs.Mend.{changes_of_mend}
 use Rattle.med_index.specs.Gathered.{IsGathered, TellsUnread}

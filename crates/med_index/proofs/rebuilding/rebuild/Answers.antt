@@ -1,7 +1,5 @@
-use Rattle.std.proofs.Common.{◌≡◌, ◌∙◌, true, false, [], refl, ap, subst}
+use Rattle.std.proofs.Common.{◌∙◌, true, false, [], refl, ap, subst}
 use Rattle.med_outside.proofs.Making.{in_turn, nothing_yet, told_as}
-use Rattle.med_index.specs.declared.errors.IndexError.TheVariants as index_error
-use Rattle.med_index.specs.declared.errors.ListError.TheVariants as list_error
 use Rattle.med_index.specs.Errors.{as_index_error}
 use Rattle.med_index.specs.Planned.{ArePlanned}
 use Rattle.med_index.specs.Plans.{count_of}

@@ -1,7 +1,7 @@
-use Rattle.std.proofs.Common.{◌++◌, ℕ, List, drop}
+use Rattle.std.proofs.Common.{◌≡◌, ◌++◌, ℕ, List, drop}
 use Rattle.med_base.specs.Content.{Content}
 use Rattle.med_outside.specs.declared.storage.Entry.{Entry}
-use Rattle.med_index.proofs.walk.visit_all.Given as goal
+use Rattle.med_index.proofs.pages.visit_all.Given as goal
 
 -- the entries from this one on are still to come
 abbrev pub invariant-loop-entry : goal.invariant-loop-entry
@@ -11,4 +11,5 @@ invariant-loop-entry g l = record {
       → g.V.Visitor.found l.visitor l.layout f c (drop l.entry-index l.entries ++ rest);
   held : (f n : List ℕ) → g.V.Visitor.held l.fn.visitor l.layout f n
       → g.V.Visitor.held l.visitor l.layout f n;
+  same : g.V.Visitor.terms l.visitor ≡ g.V.Visitor.terms l.fn.visitor;
 }

@@ -14,7 +14,12 @@ use med_outside::{Denied, Entry, PageEnd, Storage};
 use std::alloc::Global;
 
 /// What visits the entries of a listing, one at a time.
-pub(crate) trait Visitor: Sized {
+pub trait Visitor: Sized {
+    /// What a visit doesn't change of it.
+    ghost Terms: { Type 0 };
+
+    ghost terms: { Self → Terms };
+
     /// What was found of a content, where these entries are still to come, under a text before
     /// each path, and for a node.
     ghost found: { Self → List ℕ → List ℕ → Content → List Entry → Type 0 };
@@ -29,7 +34,8 @@ pub(crate) trait Visitor: Sized {
             → found self.old layout.now f c (entry.now ∷ rest)
             → found self.new layout.now f c rest) }
         ensures held { OnOk result
-            ((f n : List ℕ) → held self.old layout.now f n → held self.new layout.now f n) };
+            ((f n : List ℕ) → held self.old layout.now f n → held self.new layout.now f n) }
+        ensures same { OnOk result (terms self.new ≡ terms self.old) };
 }
 
 // Visits the entries of a page.
@@ -45,6 +51,7 @@ fn visit_all<V: Visitor>(
         → V.found visitor.new layout.now f c rest) }
     ensures held { OnOk result
         ((f n : List ℕ) → V.held visitor.old layout.now f n → V.held visitor.new layout.now f n) }
+    ensures same { OnOk result (V.terms visitor.new ≡ V.terms visitor.old) }
 {
     for entry in entries {
         visitor.visit(alloc, layout, entry)?;
@@ -69,6 +76,7 @@ fn visit_page<S: Storage, V: Visitor>(
         → V.found visitor.new layout.now f c (left_behind under.now end c))) }
     ensures held { OnOk result
         ((f n : List ℕ) → V.held visitor.old layout.now f n → V.held visitor.new layout.now f n) }
+    ensures same { OnOk result (V.terms visitor.new ≡ V.terms visitor.old) }
     ensures counts { IfOk result (λ end. CountsRight under.now end (S.state store.old).content) }
     ensures falls { IfOk result
         (λ end. IfSome (shown after.entry) (λ a. 0 < a.left → left_of end < a.left)) }
@@ -89,7 +97,7 @@ fn visit_page<S: Storage, V: Visitor>(
 }
 
 /// Visits the objects whose path begins with a text.
-pub(crate) fn walk<S: Storage, V: Visitor>(
+pub fn walk<S: Storage, V: Visitor>(
     alloc: Global,
     store: &mut S,
     layout: &Layout,
@@ -102,6 +110,7 @@ pub(crate) fn walk<S: Storage, V: Visitor>(
         → V.found visitor.new layout.now f c [])) }
     ensures held { OnOk result
         ((f n : List ℕ) → V.held visitor.old layout.now f n → V.held visitor.new layout.now f n) }
+    ensures same { OnOk result (V.terms visitor.new ≡ V.terms visitor.old) }
     ensures looks { OnlyReads (S.state store.old) (S.state store.new) (S.stood store.old)
         (S.stood store.new) }
     ensures cause { HasStoreCause (S.state store.old).faults (S.state store.new).faults result }

@@ -1,7 +1,7 @@
 use Rattle.std.proofs.Common.{sym, subst}
 use Rattle.med_outside.specs.Pages.{CountsRight}
 use Rattle.med_index.proofs.Walking.{first_found, same_content}
-use Rattle.med_index.proofs.walk.walk.Goals as goal
+use Rattle.med_index.proofs.pages.walk.Goals as goal
 
 pub pages-init : goal.pages-init
 pages-init g c =
@@ -12,6 +12,7 @@ pages-init g c =
           c.in_ok-after.after (g.S.Storage.state c.args.store.now).content
           c.in_ok-after.ensures.found;
       held = c.in_ok-after.ensures.held;
+      same = c.in_ok-after.ensures.same;
       counts =
           subst (CountsRight c.args.under.now c.in_ok-after.after)
           (sym (same_content _ _ _ _ c.in_ok-after.ensures.looks)) c.in_ok-after.ensures.counts;

@@ -3,7 +3,7 @@ use Rattle.med_base.specs.Content.{Content}
 use Rattle.med_outside.specs.declared.storage.Entry.{Entry}
 use Rattle.med_outside.specs.Pages.{shown}
 use Rattle.med_index.proofs.Walking.{page_found, page_counts}
-use Rattle.med_index.proofs.walk.visit_page.Goals as goal
+use Rattle.med_index.proofs.pages.visit_page.Goals as goal
 
 pub returns-in-Ok-visit_all-clause-found : goal.returns-in-Ok-visit_all-clause-found
 returns-in-Ok-visit_all-clause-found g c =
