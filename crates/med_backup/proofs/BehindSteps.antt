@@ -3,8 +3,8 @@ use Rattle.std.proofs.Common.{◌≡◌, ◌∙◌, ◌++◌, ℕ, Bool, true, f
 use Rattle.std.specs.List.{AllByRecursion, Contains}
 use Rattle.med_base.specs.declared.key.FileKey.{FileKey}
 use Rattle.med_base.specs.Content.{Content}
-use Rattle.med_base.specs.Effects.{after_all, applied}
-use Rattle.med_base.specs.Key.{AreRising}
+use Rattle.med_base.specs.Effects.{Effect, after_all, applied}
+use Rattle.med_base.specs.Key.{AreRising, IsKey}
 use Rattle.med_base.specs.Kinds.{IsBackupName, IsFqdn}
 use Rattle.med_core.specs.declared.records.Record.{Record}
 use Rattle.med_core.specs.Finish.{Fresh, rechecked}
@@ -28,9 +28,10 @@ use Rattle.med_shelf.specs.Shelf.{ClaimState, ShelfState, running_of}
 use Rattle.med_shelf.proofs.Acting.{runs_there}
 use Rattle.med_shelf.proofs.CheckSteps.{whole_in}
 use Rattle.med_shelf.proofs.FinishSteps.{all_moved}
-use Rattle.med_backup.specs.Backups.{ArePrints, places_of, records_over}
+use Rattle.med_backup.specs.Backups.{ArePrints, PutsManifest, places_of, records_over}
 use Rattle.med_backup.specs.Placing.{EndsBehind, MakesBehind, PlacedAll, PlacedSome}
 use Rattle.med_backup.specs.Sections.{all_effects}
+use Rattle.med_backup.proofs.CutSteps.{cut_unfinished}
 use Rattle.med_backup.proofs.KeyLemmas.{same_moved}
 use Rattle.med_backup.proofs.PlaceSteps.{sections_as}
 use Rattle.med_backup.proofs.PrintLemmas.{prints_behind}
@@ -107,7 +108,9 @@ told_prints before f n d held fresh sorted rs prints whole (Some c) is =
 
 module _ (a b now : ShelfState) (claim k : ClaimState) (keys : List FileKey)
     (held : Option Snapshot) (s0 s1 s2 : State) (p0 p1 p2 : History) (t0 t1 t2 : Trace)
-    (rising : AreRising keys) (so : PlacedAll a b claim k keys held s0 s1 p0 p1 t0 t1) where
+    (node : IsFqdn a.node) (name : IsBackupName claim.name) (rising : AreRising keys)
+    (names : AllByRecursion IsKey keys)
+    (so : PlacedAll a b claim k keys held s0 s1 p0 p1 t0 t1) where
   pub behind_finish : (result : Result Finished CopyFault)
       → Finishes b now k held result s1 s2 p1 p2 t1 t2
       → MakesBehind a now claim keys held result s0 s2 p0 p2 t0 t2
@@ -179,6 +182,21 @@ module _ (a b now : ShelfState) (claim k : ClaimState) (keys : List FileKey)
       call_so looked =
           λ i. Finish (so.name_is i) (is_differential (so.mode_is i)) (files_of looked)
 
+      -- what the finish names is that of the claim before all
+      puts_so : (xs : List Effect)
+          → AllByRecursion (λ (x : Effect). PutsManifest k.layout k.node k.name x → ⊥) xs
+          → AllByRecursion (λ (x : Effect). PutsManifest a.layout a.node claim.name x → ⊥) xs
+      puts_so xs all =
+          subst
+          (λ (y : List ℕ × List ℕ × List ℕ). AllByRecursion
+          (λ (x : Effect). PutsManifest y.0 y.1 y.2 x → ⊥) xs)
+          (λ i. (layout_so i, node_so i, so.name_is i)) all
+
+      sorted_keys : (sorted : List Record) → k.records ≡ sorted
+          → AllByRecursion IsKey (keys_of sorted)
+      sorted_keys sorted same =
+          subst (AllByRecursion IsKey) (sym so.keys_are ∙ ap keys_of same) names
+
       go : (result : Result Finished CopyFault)
           → (fin : Finishes b now k held result s1 s2 p1 p2 t1 t2)
           → EndsBehind a.layout a.node claim.name (is_differential claim.mode) held keys s0.content
@@ -197,6 +215,9 @@ module _ (a b now : ShelfState) (claim k : ClaimState) (keys : List FileKey)
             (copy_ending {T = Finished} (Err why) fin.acts.makes.last) fin.acts.makes.done;
         node_is = refl;
         call_is = call_so fin.sorted;
+        no_manifest = λ is. puts_so _ (cut_unfinished b now k held s1 s2 p1 p2 t1 t2 why fin
+            (subst IsFqdn (sym node_so) node) (subst IsBackupName (sym so.name_is) name)
+            (sorted_keys fin.sorted (sorted_same fin.sorted fin.sorted_is)) is);
         events_are = refl;
       })
       go (Ok finished) fin =

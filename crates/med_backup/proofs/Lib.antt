@@ -1,5 +1,6 @@
 pub mod BehindSteps
 pub mod ClaimedSteps
+pub mod CutSteps
 pub mod EndFacts
 pub mod Found
 pub mod KeyLemmas

@@ -45,8 +45,9 @@ all_mapped : {A B : Type 0} (g : A → B) (P : B → Type 0) (xs : List A)
 all_mapped g P [] all = tt
 all_mapped g P (x ∷ xs) all = (all.0, all_mapped g P xs all.1)
 
-all_three : {A : Type 0} (P Q R S : A → Type 0) → ((x : A) → P x → Q x → R x → S x) → (xs : List A)
-    → AllByRecursion P xs → AllByRecursion Q xs → AllByRecursion R xs → AllByRecursion S xs
+all_three : {A : Type 0} (P Q R S : A → Type 0) → ((x : A) → P x → Q x → R x → S x)
+    → (xs : List A) → AllByRecursion P xs → AllByRecursion Q xs → AllByRecursion R xs
+    → AllByRecursion S xs
 all_three P Q R S so [] a b c = tt
 all_three P Q R S so (x ∷ xs) a b c =
     (so x a.0 b.0 c.0, all_three P Q R S so xs a.1 b.1 c.1)

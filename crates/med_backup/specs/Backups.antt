@@ -3,11 +3,15 @@ use Rattle.std.specs.Prelude.{◌≡◌, ◌≢◌, ◌⊎◌, ◌++◌, ◌≤�
 use Rattle.std.specs.FinMap.{keys}
 use Rattle.std.specs.List.{AllByRecursion}
 use Rattle.med_base.specs.declared.key.FileKey.{FileKey}
+use Rattle.med_base.specs.declared.layout.MetaKind.TheVariants.{Manifest}
 use Rattle.med_base.specs.Content.{Content}
+use Rattle.med_base.specs.Effects.{Effect, Removes, Stores}
+use Rattle.med_base.specs.Layout.{meta_path}
 use Rattle.med_core.specs.declared.records.How.{How}
 use Rattle.med_core.specs.declared.records.How.TheVariants.{Reused, Stored, Aside}
 use Rattle.med_core.specs.declared.records.Record.{Record}
 use Rattle.med_core.specs.Place.{placed_record}
+use Rattle.med_core.specs.Run.{effects}
 use Rattle.med_core.specs.Section.{Abandon, Call, Claim, Done, Ending, Event, Finish, IsRunning, IsTaken, Place, Refusal, Refused, Running}
 use Rattle.med_index.specs.Modes.{is_differential}
 use Rattle.med_manifest.specs.declared.manifest.FileRecord.{FileRecord}
@@ -145,9 +149,15 @@ pub record IsCutInPlace (f n : List ℕ) (differential : Bool) (held : Option Sn
     pub call_is : cut.call ≡ Place n differential next.0 next.1
     pub events_are : events ≡ front ++ cut ∷ event_of f (Abandon n) Done [] ∷ []
 
--- the finish was cut short behind the places of all files
-pub record IsCutInFinish (f n : List ℕ) (differential : Bool) (held : Option Snapshot)
-    (keys : List FileKey) (events : List Event) : Type 0
+-- the change puts a manifest of the backup
+abbrev pub PutsManifest : (before f n : List ℕ) → Effect → Type 0
+PutsManifest before f n (Stores path bytes second) = path ≡ meta_path before f n Manifest
+PutsManifest before f n (Removes path) = ⊥
+
+-- The finish was cut short behind the places of all files. A fault of the snapshot did that before its
+-- manifest was put.
+pub record IsCutInFinish (before f n : List ℕ) (differential : Bool) (held : Option Snapshot)
+    (why : CopyFault) (keys : List FileKey) (events : List Event) : Type 0
   where
     pub files : List PlacedFile
     pub whole : AreWholeFiles held files
@@ -158,6 +168,8 @@ pub record IsCutInFinish (f n : List ℕ) (differential : Bool) (held : Option S
     pub cut : Event
     pub node_is : cut.node ≡ f
     pub call_is : cut.call ≡ Finish n differential looked
+    pub no_manifest : why ≡ fault.Snap
+        → AllByRecursion (λ (x : Effect). PutsManifest before f n x → ⊥) (effects cut)
     pub events_are : events ≡ front ++ cut ∷ []
 
 -- the event is the claim of the backup, which ended so
@@ -192,24 +204,25 @@ IsClaimRefused f n differential held why events =
     (x : Sources) × IfSome held (λ s. AreSourcesOf f s x)
     × ((e : Event) × IsClaimed f n differential x (Refused why) e × (events ≡ e ∷ []))
 
--- behind the claim the backup was cut short in a place or in its finish
-abbrev pub IsCutBehind : (f n : List ℕ) (differential : Bool) (held : Option Snapshot)
-    → List FileKey → List Event → Type 0
-IsCutBehind f n differential held keys events =
+-- behind the claim the backup was cut short, by this fault, in a place or in its finish
+abbrev pub IsCutBehind : (before f n : List ℕ) (differential : Bool) (held : Option Snapshot)
+    (why : CopyFault) → List FileKey → List Event → Type 0
+IsCutBehind before f n differential held why keys events =
     IsCutInPlace f n differential held keys events
-    ⊎ IsCutInFinish f n differential held keys events
+    ⊎ IsCutInFinish before f n differential held why keys events
 
 -- The backup was cut short: before its claim, where the storage wasn't asked; in its claim, where the
 -- snapshot isn't asked; or in one of the calls behind it.
-abbrev pub IsCut : (f n : List ℕ) (differential : Bool) (held : Option Snapshot) (why : CopyFault)
-    → List Event → Type 0
-IsCut f n differential held why events =
+abbrev pub IsCut : (before f n : List ℕ) (differential : Bool) (held : Option Snapshot)
+    (why : CopyFault) → List Event → Type 0
+IsCut before f n differential held why events =
     ((events ≡ []) × (why ≢ fault.Store))
     ⊎ ((x : Sources) × IfSome held (λ s. AreSourcesOf f s x)
     × ((e : Event) × (rest : List Event) × (events ≡ e ∷ rest)
     × (((rest ≡ []) × (why ≢ fault.Snap) × (e.node ≡ f)
     × (e.call ≡ Claim n differential x.schema x.ring))
-    ⊎ (IsClaimed f n differential x Done e × IsCutBehind f n differential held x.keys rest))))
+    ⊎ (IsClaimed f n differential x Done e
+    × IsCutBehind before f n differential held why x.keys rest))))
 
 -- the snapshot's keys are names of files, and its token map doesn't read, for this cause
 abbrev pub HasBadRing : Option Snapshot → RingWhy → Type 0
@@ -245,7 +258,7 @@ AnswersBackup before f n running differential held told told_now events
 AnswersBackup before f n running differential held told told_now events (Err (error.Taken path)) =
     IsClaimRefused f n differential held (IsTaken path) events
 AnswersBackup before f n running differential held told told_now events (Err (error.Fault why)) =
-    IsCut f n differential held why events
+    IsCut before f n differential held why events
 
 -- this holds where the backup was refused, for another cause than a fault
 abbrev pub WhereRefused : Result BackupReport BackupError → Type 0 → Type 0

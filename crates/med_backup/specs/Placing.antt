@@ -65,7 +65,7 @@ abbrev pub EndsBehind : (before f n : List ℕ) (differential : Bool) → Option
 EndsBehind before f n differential held keys told told_now events (Ok finished) =
     IsFinishedBehind before f n differential held keys told told_now events finished
 EndsBehind before f n differential held keys told told_now events (Err why) =
-    IsCutBehind f n differential held keys events
+    IsCutBehind before f n differential held why keys events
 
 -- the sections behind a claim
 pub record MakesBehind (shelf shelf_now : ShelfState) (claim : ClaimState) (keys : List FileKey)

@@ -1,7 +1,7 @@
 // The calls of a backup behind its claim.
 ghost use Rattle.std.specs.Prelude.{◌≡◌, [], IfSome};
 ghost use Rattle.std.specs.List.{AllByRecursion};
-ghost use Rattle.med_base.specs.Key.{AreRising};
+ghost use Rattle.med_base.specs.Key.{AreRising, IsKey};
 ghost use Rattle.med_base.specs.Kinds.{IsBackupName, IsFqdn};
 ghost use Rattle.med_outside.specs.Sent.{AsksBoth};
 ghost use Rattle.med_outside.specs.Snapshot.{HasKey};
@@ -38,6 +38,7 @@ pub(crate) fn place_and_finish<S: Storage, P: Snap>(
     requires of { IsClaimOf shelf.old claim }
     requires records { claim.records ≡ [] }
     requires rising { AreRising keys.items }
+    requires names { AllByRecursion IsKey keys.items }
     requires has { IfSome (P.state snap.old).held
         (λ s. AllByRecursion (λ key. HasKey key s) keys.items) }
     ensures behind { MakesBehind shelf.old shelf.new claim keys.items (P.state snap.old).held

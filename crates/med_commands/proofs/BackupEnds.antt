@@ -7,10 +7,7 @@ use Rattle.med_base.specs.Kinds.{IsFqdn}
 use Rattle.med_base.specs.Layout.{backup_folder}
 use Rattle.med_base.specs.Part.{node_part}
 use Rattle.med_base.proofs.Lists.{all_append, all_split}
-use Rattle.med_commands.specs.NodeConfig.{NodeConfig, opened_at, snap_at}
-use Rattle.med_plan.specs.Ends.{Passed}
-use Rattle.med_commands.specs.NodeConfig.{tagged_at}
-use Rattle.med_commands.specs.Taken.{IsFirstUnder, first_path}
+use Rattle.med_commands.specs.NodeConfig.{NodeConfig, opened_at, snap_at, tagged_at}
 use Rattle.med_core.specs.Reach.{MayChange}
 use Rattle.med_core.specs.Run.{IsRun, effects, effects_of}
 use Rattle.med_core.specs.Section.{Call, Claim, Done, EndsSo, Ending, Event, Halted, IsRefusedFor, IsTaken, Rebuild, Refused, Stopped, Unsure}
@@ -33,9 +30,10 @@ use Rattle.med_outside.specs.declared.copy_fault.CopyFault.TheVariants as fault
 use Rattle.med_outside.specs.declared.mode.Mode.{Mode}
 use Rattle.med_outside.specs.declared.trace.Trace.{Trace}
 use Rattle.med_outside.specs.Device.{Nodes, Storage, on}
-use Rattle.med_plan.specs.Ends.{Ends, StopsAt}
+use Rattle.med_plan.specs.Ends.{Ends}
+use Rattle.med_shelf.specs.Claims.{IsFirstUnder}
 use Rattle.med_shelf.specs.Shelf.{ShelfState}
-use Rattle.med_commands.specs.Backups.{AreMade, IsCutFrom, IsDone, IsLooked, IsPart, MakesBackup, WorksOnNode, WorksOnSnapshot, copy_plan, node_plan, snapshot_plan}
+use Rattle.med_commands.specs.Backups.{AreMade, IsCutFrom, IsDone, IsLooked, IsPart, MakesBackup, WorksOnNode, WorksOnSnapshot, copy_plan, node_plan, sections_plan, snapshot_plan}
 use Rattle.med_commands.specs.Fault.{stop_of, fault_for}
 use Rattle.med_commands.specs.Headline.{End, says}
 use Rattle.med_commands.specs.Report.{report_line}
@@ -79,27 +77,27 @@ module _ (before f n : List ℕ) where
   folder = backup_folder before f n
 
   module _ (c : Content) (node : IsFqdn f) where
-    -- what lies in the folder, over the part of the node
-    first_of : (objects : List (List ℕ × Object)) → objects_under folder (node_part before f c)
-        ≡ objects → first_path objects ≡ first_path (objects_under folder c)
-    first_of objects are = ap first_path (sym are ∙ under_part before f node n c)
+    -- what lies in the folder lies there over the part of the node
+    over_all : (objects : List (List ℕ × Object)) → objects_under folder (node_part before f c)
+        ≡ objects → objects_under folder c ≡ objects
+    over_all objects are = sym (under_part before f node n c) ∙ are
 
     module _ (d : Bool) (schema ring : List ℕ) where
       -- the changes of a claim were begun where its folder is free
       by_ending : (ending : Ending) (changes : List Effect)
           → EndsSo before (node_part before f c) [] f (Claim n d schema ring) ending changes
-          → (effects_of ending changes ≡ []) ⊎ (None ≡ first_path (objects_under folder c))
-      by_ending Done changes (idle, free, rest) = inr (first_of [] free)
+          → (effects_of ending changes ≡ []) ⊎ IsFirstUnder folder (Some c) None
+      by_ending Done changes (idle, free, rest) = inr (over_all [] free)
       by_ending (Refused why) changes (none, for) = inl none
       by_ending (Halted by) changes (inl none) = inl none
       by_ending (Halted by) changes (inr (rest, left, inl (idle, free, are))) =
-          inr (first_of [] free)
+          inr (over_all [] free)
       by_ending (Halted by) changes (inr (rest, left, inr look)) = absurd look
       by_ending (Unsure x took_effect) changes (rest, inl (idle, free, are)) =
-          inr (first_of [] free)
+          inr (over_all [] free)
       by_ending (Unsure x took_effect) changes (rest, inr look) = absurd look
       by_ending Stopped changes (inl none) = inl none
-      by_ending Stopped changes (inr (rest, inl (idle, free, are))) = inr (first_of [] free)
+      by_ending Stopped changes (inr (rest, inl (idle, free, are))) = inr (over_all [] free)
       by_ending Stopped changes (inr (rest, inr look)) = absurd look
 
   module _ (d : Bool) (schema ring : List ℕ) (e : Event) (rest : List Event) (node_is : e.node ≡ f)
@@ -129,7 +127,7 @@ module _ (before f n : List ℕ) where
         let ends = ends_as c run in
         let list = subst (λ (ending : Ending). EndsSo before (node_part before f c) [] f
         (Claim n d schema ring) ending e.changes) is ends.1 in
-        first_of c ends.0 [] list.1
+        over_all c ends.0 [] list.1
 
     pub taken_first : (told : Option Content) → IfSome told (λ c. IsRun before c [] (e ∷ rest))
         → (path : List ℕ) → e.ending ≡ Refused (IsTaken path)
@@ -140,7 +138,7 @@ module _ (before f n : List ℕ) where
         let found : (e.changes ≡ []) × IsRefusedFor before (node_part before f c) [] f
         (Claim n d schema ring) (IsTaken path) = subst (λ (ending : Ending). EndsSo before
         (node_part before f c) [] f (Claim n d schema ring) ending e.changes) is ends.1 in
-        first_of c ends.0 _ found.1.1.2
+        let (o, rest, are) = found.1.1 in (o, rest, over_all c ends.0 _ are)
 
 -- ---- the ends
 
@@ -195,16 +193,10 @@ module _ (node_config : NodeConfig) (n : List ℕ) (mode : Mode) (a b : World) w
         at_name fault.Store never up still x = inl ((inl refl, up), looked still)
         at_name fault.Memory never up still x = inl ((inr (inl refl), tt), looked still)
 
-        among : (w : CopyFault) → rose_of a b (device_of w)
-            → StopsAt (rose_of a b) (Passed {T = BackupReport}) (Nodes ∷ on Storage)
-            (stop_of (fault_for n (error.Fault w)))
-        among fault.Snap up = (inl refl, up)
-        among fault.Store up = (inr (inl refl), up)
-        among fault.Memory up = (inr (inr (inl refl)), up)
-
         part : (x : Sources)
-            → IsCutFrom node_config.node n (is_differential mode)
-            (snap_at a.nodes.snaps node_config n) x made.events → IsPart node_config n a b mode x
+            → IsCutFrom node_config.before node_config.node n (is_differential mode)
+            (snap_at a.nodes.snaps node_config n) why x made.events
+            → IsPart node_config n a b mode x why
         part x cut = record {
           events = made.events;
           made = made.made;
@@ -213,7 +205,17 @@ module _ (node_config : NodeConfig) (n : List ℕ) (mode : Mode) (a b : World) w
           out = out_is;
         }
 
-        by_part : IsCut node_config.node n (is_differential mode)
+        in_sections : (w : CopyFault) → rose_of a b (device_of w) → (x : Sources)
+            → IsPart node_config n a b mode x w
+            → Ends (rose_of a b) says (sections_plan n mode a b node_config x)
+            (stop_for (error.Fault w))
+        in_sections fault.Snap up x so = inl ((inl refl, up), so)
+        in_sections fault.Store up x so =
+            inr (tt, tt, inl ((inl refl, up), (fault.Store, so)))
+        in_sections fault.Memory up x so =
+            inr (tt, tt, inl ((inr (inl refl), up), (fault.Memory, so)))
+
+        by_part : IsCut node_config.before node_config.node n (is_differential mode)
             (snap_at a.nodes.snaps node_config n) why made.events
             → Ends (rose_of a b) says (snapshot_plan n mode a b node_config)
             (stop_for (error.Fault why))
@@ -243,10 +245,8 @@ module _ (node_config : NodeConfig) (n : List ℕ) (mode : Mode) (a b : World) w
                 inr (
                   tt,
                   free,
-                  inl (
-                    among why rose,
-                    part x (e, rest, are, inl (alone, node_is, call_is)),
-                  ),
+                  in_sections why rose x
+                      (part x (e, rest, are, inl (alone, never, node_is, call_is))),
                 )
         by_part (inr (x, of, (e, rest, are, inr (claimed, behind)))) =
             let run = subst (λ (es : List Event). IfSome a.store.content
@@ -260,10 +260,7 @@ module _ (node_config : NodeConfig) (n : List ℕ) (mode : Mode) (a b : World) w
               inr (
                 tt,
                 free,
-                inl (
-                  among why rose,
-                  part x (e, rest, are, inr (claimed, behind)),
-                ),
+                in_sections why rose x (part x (e, rest, are, inr (claimed, behind))),
               ),
             )
 
@@ -369,16 +366,20 @@ module _ (node_config : NodeConfig) (n : List ℕ) (mode : Mode) (a b : World) w
               tt,
               free,
               inr (
-                report,
                 tt,
-                printed (IsDone node_config n a b mode backup.sources report)
-                    (record {
-                      events = made.events;
-                      made = made.made;
-                      backup = backup;
-                      sources_are = refl;
-                      snapshot = counts;
-                    }),
+                tt,
+                inr (
+                  report,
+                  tt,
+                  printed (IsDone node_config n a b mode backup.sources report)
+                      (record {
+                        events = made.events;
+                        made = made.made;
+                        backup = backup;
+                        sources_are = refl;
+                        snapshot = counts;
+                      }),
+                ),
               ),
             ),
           ),

@@ -8,13 +8,11 @@ use Rattle.med_base.specs.declared.key.FileKey.{FileKey}
 use Rattle.med_base.specs.Key.{IsKey}
 use Rattle.med_base.proofs.Lists.{not_all}
 use Rattle.med_commands.specs.NodeConfig.{NodeConfig, snap_at}
-use Rattle.med_plan.specs.Ends.{Passed}
-use Rattle.med_commands.specs.Taken.{first_path}
 use Rattle.med_backup.specs.Walked.{CanBeWalked, IsFirstBad}
 use Rattle.med_backup.specs.Backups.{AreSourcesOf, HasHost, Sources}
 use Rattle.med_backup.specs.declared.report.BackupReport.{BackupReport}
 use Rattle.med_outside.specs.Device.{Nodes, Storage, on}
-use Rattle.med_plan.specs.Ends.{Refusal, Taken, NoSnapshot, BadFileName, BadRing, NotInRing, Refused, step, Leads}
+use Rattle.med_plan.specs.Ends.{Refusal, Taken, NoSnapshot, BadFileName, BadRing, NotInRing, Passed, Refused, step, Leads}
 use Rattle.med_outside.specs.Snapshot.{Snapshot}
 use Rattle.med_outside.specs.World.{World}
 use Rattle.med_outside.specs.declared.mode.Mode.{Mode}
@@ -26,7 +24,8 @@ use Rattle.med_ring.specs.Ring.{IsRing}
 use Rattle.med_ring.proofs.Faults.{no_ring}
 use Rattle.med_ring.proofs.OneCause.{cause_is_one}
 use Rattle.med_ring.proofs.OneRing.{ring_is_one}
-use Rattle.med_commands.specs.Backups.{FindsFree, IsDone, IsPart, Prepares, copy_plan, held_at, node_plan, snapshot_plan}
+use Rattle.med_shelf.specs.Claims.{IsFirstUnder}
+use Rattle.med_commands.specs.Backups.{FindsFree, IsDone, IsPart, Prepares, copy_plan, held_at, node_plan, sections_plan, snapshot_plan}
 use Rattle.med_commands.specs.Decided.{CanBeBackedUp}
 use Rattle.med_commands.specs.Headline.{End}
 use Rattle.med_commands.specs.Report.{report_line}
@@ -70,13 +69,18 @@ not_walked s at walked bad = not_all IsKey s.order at bad.key bad.stands bad.bad
 
 -- ---- the objects under a folder
 
-no_path : (path : List ℕ) (objects : List (List ℕ × Object)) → objects ≡ []
-    → Some path ≡ first_path objects → ⊥
-no_path path objects none is =
-    let bad : Some path ≡ first_path [] = is ∙ ap first_path none in cc bad
+no_path : (folder path : List ℕ) (c : Content) → objects_under folder c ≡ []
+    → IsFirstUnder folder (Some c) (Some path) → ⊥
+no_path folder path c none (o, rest, is) =
+    let bad : ◌≡◌ {A = List (List ℕ × Object)} ((path, o) ∷ rest) [] = sym is ∙ none in cc bad
 
-one_path : (x y : List ℕ) (o : Option (List ℕ)) → o ≡ Some x → Some y ≡ o → x ≡ y
-one_path x y o e g = cc (sym e ∙ sym g)
+one_path : (folder x y : List ℕ) (c : Content) → IsFirstUnder folder (Some c) (Some x)
+    → IsFirstUnder folder (Some c) (Some y) → x ≡ y
+one_path folder x y c (o, rest, is) (o', rest', is') =
+    let same : ◌≡◌ {A = List (List ℕ × Object)} ((x, o) ∷ rest) ((y, o') ∷ rest') =
+    sym is ∙ is' in
+    let first : ◌≡◌ {A = List ℕ × Object} (x, o) (y, o') = cc same in
+    ap (λ (e : List ℕ × Object). e.0) first
 
 -- ---- the token map
 
@@ -92,9 +96,12 @@ same_text _ _ same = absurd same
 -- ---- the work on a node
 
 module _ (n : List ℕ) (mode : Mode) (a b : World) (node_config : NodeConfig) where
-  -- the objects under the folder of the name
+  -- the folder of the name, and the objects under it
+  abbrev folder : List ℕ
+  folder = backup_folder node_config.before node_config.node n
+
   abbrev under : Content → List (List ℕ × Object)
-  under c = objects_under (backup_folder node_config.before node_config.node n) c
+  under c = objects_under folder c
 
   -- what the look at the folder answers
   abbrev Finds : Result (Unit {0}) Refusal → Type 0
@@ -105,42 +112,41 @@ module _ (n : List ℕ) (mode : Mode) (a b : World) (node_config : NodeConfig) w
   Begins = Prepares node_config.node n (held_at node_config n a b)
 
   -- the sections, and what follows them
-  sections_lead : (x : Sources)
-      → Leads (step {T = BackupReport} Passed (Nodes ∷ on Storage)
-      (IsPart node_config n a b mode x) (λ report.
-      prints (report_line report) (IsDone node_config n a b mode x report) a b)) (Ok tt)
+  sections_lead : (x : Sources) → Leads (sections_plan n mode a b node_config x) (Ok tt)
   sections_lead x =
-      by_answer _ _ _ (λ report h. by_answer _ _ _ (λ y g. refl) (λ f g. absurd g))
+      by_answer _ _ _
+      (λ y h. by_answer _ _ _
+      (λ report g. by_answer _ _ _ (λ z k. refl) (λ f k. absurd k)) (λ f g. absurd g))
       (λ f h. absurd h)
 
   module _ (c : Content) (content : a.store.content ≡ Some c) where
+    -- what is told of the first path is so of the content
+    first_here : (path : List ℕ) → IsFirstUnder folder a.store.content (Some path)
+        → IsFirstUnder folder (Some c) (Some path)
+    first_here path h =
+        subst (λ (o : Option Content). IsFirstUnder folder o (Some path)) content h
+
     free_copies : under c ≡ [] → (x : Sources) → Leads (copy_plan n mode a b node_config x) (Ok tt)
     free_copies none x = by_answer _ _ _ (λ y h. sections_lead x) (λ f h. absurd (no f h))
       where
         no : (f : Refusal) → Finds (Err f) → ⊥
-        no (Taken name path) h =
-            no_path path (under c) none
-            (subst (λ (o : Option Content). IfSome o (λ c. Some path ≡ first_path (under c)))
-            content h.1)
+        no (Taken name path) h = no_path folder path c none (first_here path h.1)
         no f h = h
 
-    taken_stops : (path : List ℕ) → first_path (under c) ≡ Some path → (x : Sources)
+    taken_stops : (path : List ℕ) → IsFirstUnder folder (Some c) (Some path) → (x : Sources)
         → Leads (copy_plan n mode a b node_config x) (Err (Refused (Taken n path)))
     taken_stops path first x = by_answer _ _ _ (λ y h. absurd (no y h)) yes
       where
         no : (y : Unit {0}) → Finds (Ok y) → ⊥
         no y h =
-            let bad : ◌≡◌ {A = Option (List ℕ)} None (Some path) =
-            subst (λ (o : Option Content). IfSome o (λ c. None ≡ first_path (under c))) content h
-            ∙ first in cc bad
+            no_path folder path c
+            (subst (λ (o : Option Content). IsFirstUnder folder o None) content h) first
 
         yes : (f : Refusal) → Finds (Err f)
             → ◌≡◌ {A = End} (Err (Refused (Taken n path))) (Err (Refused f))
         yes (Taken name other) h =
             ap₂ (λ (m p : List ℕ). Err (Refused (Taken m p))) (sym h.0)
-            (one_path path other (first_path (under c)) first
-            (subst (λ (o : Option Content). IfSome o (λ c. Some other ≡ first_path (under c)))
-            content h.1))
+            (one_path folder path other c first (first_here other h.1))
         yes f h = absurd h
 
   module _ (s : Snapshot) (is : snap_at a.nodes.snaps node_config n ≡ Some s) where
@@ -172,7 +178,7 @@ module _ (n : List ℕ) (mode : Mode) (a b : World) (node_config : NodeConfig) w
     free_leads c can content none = prepared (Ok tt) can (free_copies c content none)
 
     pub taken_leads : (c : Content) (path : List ℕ) → CanBeBackedUp node_config.node s
-        → a.store.content ≡ Some c → first_path (under c) ≡ Some path
+        → a.store.content ≡ Some c → IsFirstUnder folder (Some c) (Some path)
         → Leads (snapshot_plan n mode a b node_config) (Err (Refused (Taken n path)))
     taken_leads c path can content first =
         prepared (Err (Refused (Taken n path))) can (taken_stops c content path first)

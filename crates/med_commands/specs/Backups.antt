@@ -2,10 +2,7 @@
 use Rattle.std.specs.Prelude.{◌≡◌, ◌≢◌, ◌⊎◌, ◌≤◌, ℕ, Bool, List, [], ◌∷◌, Option, Some, None, IfSome, Result, Ok, Err}
 use Rattle.med_base.specs.Content.{Content}
 use Rattle.med_commands.specs.Changes.{IsNothing, IsMadeBy}
-use Rattle.med_commands.specs.NodeConfig.{NodeConfig, opened_at, snap_at}
-use Rattle.med_plan.specs.Ends.{Passed}
-use Rattle.med_commands.specs.NodeConfig.{tagged_at}
-use Rattle.med_commands.specs.Taken.{IsFirstUnder}
+use Rattle.med_commands.specs.NodeConfig.{NodeConfig, opened_at, snap_at, tagged_at}
 use Rattle.med_base.specs.Layout.{backup_folder}
 use Rattle.med_backup.specs.Walked.{IsFirstBad}
 use Rattle.med_core.specs.Reach.{AreWithin}
@@ -26,8 +23,9 @@ use Rattle.med_outside.specs.Snapshot.{Snapshot}
 use Rattle.med_outside.specs.State.{State, ChangesWithin, History}
 use Rattle.med_outside.specs.World.{NodesState, World, rose_of_node}
 use Rattle.med_outside.specs.declared.mode.Mode.{Mode}
-use Rattle.med_plan.specs.Ends.{Refusal, Taken, NoSnapshot, BadFileName, BadRing, NotInRing, Plan, step}
+use Rattle.med_plan.specs.Ends.{Refusal, Taken, NoSnapshot, BadFileName, BadRing, NotInRing, Passed, Plan, step}
 use Rattle.med_ring.specs.declared.error.RingWhy.{RingWhy}
+use Rattle.med_shelf.specs.Claims.{IsFirstUnder}
 use Rattle.med_words.specs.Request.{Asked}
 use Rattle.med_commands.specs.Report.{report_line}
 use Rattle.med_commands.specs.Steps.{ReadsConfig, IsLeft, IsUntouched, prints}
@@ -44,14 +42,16 @@ pub record AreMade (before f : List ℕ) (events : List Event) (old new : State)
     pub within : AreWithin before f Rebuild (all_effects events)
     pub run : IfSome old.content (λ c. IsRun before c [] events)
 
--- Behind the look at the name the backup was cut short: in its claim; or it was claimed, and a place
--- or the finish was cut short.
-abbrev pub IsCutFrom : (f n : List ℕ) (differential : Bool) (held : Option Snapshot) → Sources
-    → List Event → Type 0
-IsCutFrom f n differential held x events =
+-- Behind the look at the name this fault cut the backup short: in its claim, which isn't one of the
+-- snapshot; or it was claimed, and a place or the finish was cut short.
+abbrev pub IsCutFrom : (before f n : List ℕ) (differential : Bool) (held : Option Snapshot)
+    (why : CopyFault) → Sources → List Event → Type 0
+IsCutFrom before f n differential held why x events =
     (e : Event) × (rest : List Event) × (events ≡ e ∷ rest)
-    × (((rest ≡ []) × (e.node ≡ f) × (e.call ≡ Claim n differential x.schema x.ring))
-    ⊎ (IsClaimed f n differential x Done e × IsCutBehind f n differential held x.keys rest))
+    × (((rest ≡ []) × (why ≢ fault.Snap) × (e.node ≡ f)
+    × (e.call ≡ Claim n differential x.schema x.ring))
+    ⊎ (IsClaimed f n differential x Done e
+    × IsCutBehind before f n differential held why x.keys rest))
 
 -- ---- what the steps answer
 
@@ -91,12 +91,13 @@ module _ (node_config : NodeConfig) (n : List ℕ) (a b : World) where
   IsLooked = IsUnchanged (opened_once (tagged_at node_config n))
 
   module _ (mode : Mode) (x : Sources) where
-    -- a first part of the backup was made
-    pub record IsPart : Type 0 where
+    -- a first part of the backup was made, which this fault cut short
+    pub record IsPart (why : CopyFault) : Type 0 where
       pub events : List Event
       pub made : AreMade node_config.before node_config.node events (opened_at node_config a.store)
           b.store a.stood b.stood
-      pub cut : IsCutFrom node_config.node n (is_differential mode) held_at x events
+      pub cut : IsCutFrom node_config.before node_config.node n (is_differential mode) held_at why
+          x events
       pub snapshot : b.nodes.counts ≡ opened_once (tagged_at node_config n) a.nodes.counts
       pub out : b.out ≡ a.out
 
@@ -115,14 +116,20 @@ module _ (node_config : NodeConfig) (n : List ℕ) (a b : World) where
 -- ---- the plan
 
 module _ (n : List ℕ) (mode : Mode) (a b : World) where
-  -- the backup of these sources, and its line
+  -- The sections of the backup of these sources, and its line. Where the snapshot fails, no manifest was
+  -- put.
+  abbrev pub sections_plan : NodeConfig → Sources → Plan (Type 0) (Unit {0})
+  sections_plan node_config x =
+      step {T = Unit {0}} Passed (Nodes ∷ []) (IsPart node_config n a b mode x fault.Snap) (λ _.
+      step {T = BackupReport} Passed (on Storage)
+      ((why : CopyFault) × IsPart node_config n a b mode x why) (λ report.
+      prints (report_line report) (IsDone node_config n a b mode x report) a b))
+
+  -- the backup of these sources, where the name is free
   abbrev pub copy_plan : NodeConfig → Sources → Plan (Type 0) (Unit {0})
   copy_plan node_config x =
       step (FindsFree node_config.before node_config.node n a.store.content) (on Storage)
-      (IsLooked node_config n a b) (λ _.
-      step {T = BackupReport} Passed (Nodes ∷ on Storage) (IsPart node_config n a b mode x)
-      (λ report.
-      prints (report_line report) (IsDone node_config n a b mode x report) a b))
+      (IsLooked node_config n a b) (λ _. sections_plan node_config x)
 
   -- the same of an open snapshot
   abbrev pub snapshot_plan : NodeConfig → Plan (Type 0) (Unit {0})

@@ -6,7 +6,6 @@ use Rattle.med_base.specs.Content.{Content, objects_under}
 use Rattle.med_base.specs.Layout.{backup_folder}
 use Rattle.med_base.specs.NameOrder.{name_cmp}
 use Rattle.med_commands.specs.NodeConfig.{NodeConfig, node_config_of, snap_at}
-use Rattle.med_commands.specs.Taken.{first_path}
 use Rattle.med_backup.specs.Walked.{CanBeWalked, IsFirstBad}
 use Rattle.med_index.specs.Rows.{HasBackup}
 use Rattle.med_ini.specs.declared.config.Config.{Config}
@@ -20,6 +19,7 @@ use Rattle.med_ring.specs.declared.error.RingWhy.{RingWhy}
 use Rattle.med_ring.specs.Blames.{IsRefused as IsNoRing}
 use Rattle.med_ring.specs.Host.{RingHost}
 use Rattle.med_ring.specs.Ring.{IsRing}
+use Rattle.med_shelf.specs.Claims.{IsFirstUnder}
 use Rattle.med_words.specs.Blames.{BlamesWords}
 use Rattle.med_words.specs.Request.{Asked, IsRequest}
 use Rattle.med_words.specs.Tables.{Action, backup, build_index, word_of}
@@ -91,7 +91,7 @@ TakenIsRefused a b =
     (path : List ℕ)
     → IsAskedOver asked a node_config n s → CanBeBackedUp node_config.node s
     → a.store.content ≡ Some c
-    → first_path (objects_under (backup_folder node_config.before node_config.node n) c) ≡ Some path
+    → IsFirstUnder (backup_folder node_config.before node_config.node n) (Some c) (Some path)
     → Leads (plan_of asked a b) (Err (Refused (Taken n path)))
 
 -- the snapshot has no key

@@ -11,5 +11,4 @@ pub mod Printed
 pub mod Report
 pub mod Status
 pub mod Steps
-pub mod Taken
 pub mod Texts

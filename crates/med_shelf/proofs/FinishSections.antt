@@ -220,7 +220,7 @@ module _ (before f n : List ℕ) (d : Bool) (sorted : List Record) (fresh : Fres
       inl (listed running c looked finished.records.items finished.second xs list ended)
   ends_begun running c looked xs (Err answer) list (inl none) =
       inr (fresh, ap (λ l. looked ++ l) none ∙ append-nil looked ∙ list)
-  ends_begun running c looked xs (Err answer) list (inr (rs, second, ended)) =
+  ends_begun running c looked xs (Err answer) list (inr (apart, rs, second, ended)) =
       inl (listed running c looked rs second xs list ended)
 
 -- ---- a finish of a shelf
@@ -272,7 +272,7 @@ ends_within before f n node name d sorted fresh told looked xs (Ok finished) cal
 ends_within before f n node name d sorted fresh told looked xs (Err answer) call (inl none) =
     subst (AreWithin before f call) (sym none) tt
 ends_within before f n node name d sorted fresh told looked xs (Err answer) call
-    (inr (rs, second, ended)) =
+    (inr (apart, rs, second, ended)) =
     ending_within before f n node name call _ _ second xs ended.ending
 
 -- the manifest stands behind a finish

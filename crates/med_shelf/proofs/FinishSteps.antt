@@ -1,5 +1,5 @@
 -- A finish: records in order of their keys, and the look at them, the text and the end in a row.
-use Rattle.std.proofs.Common.{◌≡◌, ◌∙◌, ◌+◌, suc, ℕ, Bool, true, false, List, [], ◌∷◌, ◌++◌, append-nil, slice_index_or, Option, Some, None, Result, Ok, Err, IsOk, IfSome, inl, inr, refl, sym, ap, subst, arith}
+use Rattle.std.proofs.Common.{◌≡◌, ◌≢◌, ◌∙◌, ◌+◌, suc, ℕ, Bool, true, false, List, [], ◌∷◌, ◌++◌, append-nil, slice_index_or, Option, Some, None, Result, Ok, Err, IsOk, IfSome, inl, inr, refl, sym, ap, subst, arith}
 use Rattle.std.proofs.lemmas.List.Elements.{All-from_recursion, recursion_from_All}
 use Rattle.std.proofs.lemmas.List.Sorted.{All-permutation, IsPermutation-map}
 use Rattle.std.proofs.lemmas.Map.Keys.{IsDistinct-IsPermutation}
@@ -21,9 +21,10 @@ use Rattle.med_manifest.specs.declared.manifest.FileRecord.{FileRecord}
 use Rattle.med_outside.specs.declared.copy_fault.CopyFault.{CopyFault}
 use Rattle.med_outside.specs.declared.copy_fault.CopyFault.TheVariants as fault
 use Rattle.med_outside.specs.declared.denied.Denied.{Denied}
-use Rattle.med_outside.specs.declared.denied.Denied.TheVariants.{Failed}
+use Rattle.med_outside.specs.declared.denied.Denied.TheVariants.{Failed, Memory}
 use Rattle.med_outside.specs.declared.trace.Trace.{Trace}
 use Rattle.med_outside.specs.Makes.{IsError, Makes}
+use Rattle.med_outside.specs.Sent.{fault_of}
 use Rattle.med_outside.specs.Snapshot.{Snapshot}
 use Rattle.med_outside.specs.State.{State, History}
 use Rattle.med_outside.proofs.Making.{in_turn, told_as}
@@ -110,6 +111,11 @@ told_moved P (Some x) rs sorted moved all = all_moved (P x) rs sorted moved all
 
 -- ---- the look, the text and the end
 
+-- the fault of a call of the storage isn't one of the snapshot
+pub never_snap : (denied : Denied) → fault_of fault.Store denied ≢ fault.Snap
+never_snap Failed is = absurd (cc is)
+never_snap Memory is = absurd (cc is)
+
 -- the files of records with these keys and paths are files of the backup
 of_files : (before f n : List ℕ) (sorted rs : List Record) → keys_of rs ≡ keys_of sorted
     → AllByRecursion (λ (r : Record). IsKey r.file.key) sorted
@@ -185,17 +191,17 @@ module _ (before f n : List ℕ) (d : Bool) (sorted : List Record) (held : Optio
 
     -- the end was refused
     pub refused_finish : (denied : Denied) (answer : CopyFault)
-        → (denied ≡ Failed → answer ≡ fault.Store)
+        → (denied ≡ Failed → answer ≡ fault.Store) → answer ≢ fault.Snap
         → EndsBackup before f n text (Err denied) s1 s2 p1 p2 t1 t2
         → FinishesSorted before f n d sorted held (Err answer) s0 s2 p0 p2 t0 t2
-    refused_finish denied answer blames ends = record {
+    refused_finish denied answer blames apart ends = record {
       fresh = checks.fresh;
       fresh_is = checks.fresh_is;
       looked = checks.xs;
       looked_are = checks.puts;
       list = checks.list;
       ended = ends.xs;
-      ends = inr (items v, ends.second, ended ends.second ends.xs ends.ending);
+      ends = inr (apart, items v, ends.second, ended ends.second ends.xs ends.ending);
       makes = in_a_row (false ≡ true) (answer ≡ fault.Store) ends.xs
           (told_as (false ≡ true) (denied ≡ Failed) (false ≡ true) (answer ≡ fault.Store) ends.xs
           s1 s2 p1 p2 t1 t2 (λ never. never) blames ends.makes);

@@ -43,13 +43,6 @@ pub record HasClaimCause {T : Type 0} (before now : ℕ) (result : Result T Clai
   pub later : before ≤ now
   pub failed : IsErrOf result Store → RoseOrFull before now
 
--- ---- for this crate's own clauses
-
--- the path of the first entry, or none
-abbrev pub first_entry : List Entry → Option (List ℕ)
-first_entry [] = None
-first_entry (e ∷ es) = Some e.path
-
 -- the first path in byte order of what lies under a folder, or none where nothing does, by what is
 -- told
 abbrev pub IsFirstUnder : List ℕ → Option Content → Option (List ℕ) → Type 0
@@ -58,6 +51,13 @@ IsFirstUnder folder told (Some path) =
     IfSome told
     (λ c. (o : Object) × (rest : List (List ℕ × Object))
     × (objects_under folder c ≡ (path, o) ∷ rest))
+
+-- ---- for this crate's own clauses
+
+-- the path of the first entry, or none
+abbrev pub first_entry : List Entry → Option (List ℕ)
+first_entry [] = None
+first_entry (e ∷ es) = Some e.path
 
 -- a look at the name: it isn't running and its folder is free, or this is the refusal
 abbrev pub AnswersLook : {T : Type 0} → ShelfState → List ℕ → Option Content → Result T ClaimError

@@ -1,5 +1,5 @@
 -- What a finish makes and answers.
-use Rattle.std.specs.Prelude.{◌≡◌, ◌⊎◌, ◌++◌, ℕ, Bool, List, [], Option, Some, IfOk, IfSome, Result, IsOk, Ok, Err}
+use Rattle.std.specs.Prelude.{◌≡◌, ◌≢◌, ◌⊎◌, ◌++◌, ℕ, Bool, List, [], Option, Some, IfOk, IfSome, Result, IsOk, Ok, Err}
 use Rattle.std.specs.FinMap.{get}
 use Rattle.std.specs.List.{AllByRecursion}
 use Rattle.med_base.specs.declared.layout.MetaKind.TheVariants.{Manifest}
@@ -40,8 +40,9 @@ pub record IsEnded (before f n : List ℕ) (differential : Bool) (sorted : List 
     pub names : IsManifest before f n (manifest_text (files_of rs)) (files_of rs)
     pub ending : IsEnding before f n (after_all looked told) (manifest_text (files_of rs)) second xs
 
--- The changes behind the look: those of the end with the records that are answered; after a refusal
--- there are none, or those of an end of which only a first part was made.
+-- The changes behind the look: those of the end with the records that are answered. After a refusal
+-- there are none, or those of an end of which only a first part was made; a fault of the snapshot comes
+-- before the end, and there are none then.
 abbrev pub EndsWith : (before f n : List ℕ) (differential : Bool) (sorted : List Record)
     → Fresh → Option Content → (looked : List Effect) → Result Finished CopyFault → List Effect
     → Type 0
@@ -49,9 +50,9 @@ EndsWith before f n differential sorted fresh told looked (Ok finished) xs =
     (finished.name ≡ n)
     × IsEnded before f n differential sorted fresh told looked finished.records.items
     finished.second xs
-EndsWith before f n differential sorted fresh told looked (Err fault) xs =
+EndsWith before f n differential sorted fresh told looked (Err answer) xs =
     (xs ≡ [])
-    ⊎ ((rs : List Record) × (second : ℕ)
+    ⊎ ((answer ≢ fault.Snap) × (rs : List Record) × (second : ℕ)
     × IsEnded before f n differential sorted fresh told looked rs second xs)
 
 -- the manifest of the answer stands, with its second, where what stands is told

@@ -21,5 +21,7 @@ pub returns-clause-behind : goal.returns-clause-behind
 returns-clause-behind g c =
     behind_finish c.args.shelf.now c.place_files.new.shelf c.finish.new.self c.args.claim
     c.place_files.new.claim c.args.keys.items (g.P.Snap.state c.args.snap.now).held _ _ _ _ _ _ _ _ _
-    c.requires.rising c.in-Ok.ensures.all c.finish.result
+    (subst IsFqdn (c.node.ensures ∙ c.requires.of.node_is) c.names_keep_rules.ensures.node)
+    (subst IsBackupName c.name.ensures c.names_keep_rules.ensures.name) c.requires.rising
+    c.requires.names c.in-Ok.ensures.all c.finish.result
     (rw c.in-Ok.ensures.asks.same.held at c.finish.ensures.finishes)

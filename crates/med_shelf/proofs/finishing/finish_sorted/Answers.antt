@@ -7,7 +7,7 @@ use Rattle.med_manifest.specs.Manifest.{IsPathOf, NamesThese}
 use Rattle.med_outside.specs.declared.copy_fault.CopyFault.TheVariants as fault
 use Rattle.med_outside.specs.Sent.{fault_of}
 use Rattle.med_shelf.specs.Records.{files_of}
-use Rattle.med_shelf.proofs.FinishSteps.{cut_finish, refused_finish, whole_finish}
+use Rattle.med_shelf.proofs.FinishSteps.{cut_finish, never_snap, refused_finish, whole_finish}
 use Rattle.med_shelf.proofs.finishing.finish_sorted.Goals as goal
 
 pub returns-in-Err-clause-finishes : goal.returns-in-Err-clause-finishes
@@ -46,4 +46,6 @@ returns-in-Err-end_backup-clause-finishes g c =
     (subst (λ text. NamesThese text (files_of c.in-Ok.looked.items)) (sym value)
     c.in-Ok-write_records.ensures.names)
     c.in-Err-end_backup.denied c.of_store.result
-    (λ is. c.of_store.ensures ∙ ap (fault_of fault.Store) is) c.in-Err-end_backup.ensures.ends
+    (λ is. c.of_store.ensures ∙ ap (fault_of fault.Store) is)
+    (λ is. never_snap c.in-Err-end_backup.denied (sym c.of_store.ensures ∙ is))
+    c.in-Err-end_backup.ensures.ends
