@@ -1,0 +1,9 @@
+pub mod Adding
+pub mod Apart
+pub mod Counted
+pub mod Gone
+pub mod Listing
+pub mod Noting
+pub mod Outsides
+pub mod Picks
+pub mod Plans

@@ -1,0 +1,5 @@
+pub mod Going
+pub mod Marked
+pub mod Named
+pub mod Picking
+pub mod Plan
