@@ -1,6 +1,7 @@
 pub mod Adding
 pub mod Apart
 pub mod Counted
+pub mod Deletes
 pub mod Gone
 pub mod Listing
 pub mod Noting

@@ -144,7 +144,10 @@ module _ (before f : List ℕ) (c : Content) where
           → AreNamesOf before f c (es ++ (path, n) ∷ []) (paths ++ paths_in files)
       names_read o files stands is = record {
         read = all_push (ReadsIfThere before f c) es (path, n) so.read
-            (λ other there. (files, subst (λ m. HasManifest before f m c files) (sym (ap name_in kind)) has));
+            (λ other there. (
+              files,
+              subst (λ m. HasManifest before f m c files) (sym (ap name_in kind)) has,
+            ));
         sound = λ p among. elim (Contains-append_cases paths (paths_in files) p among) [
           | inl was ↦ more_named p (so.sound p was)
           | inr here ↦ record {

@@ -9,6 +9,7 @@ mod laws;
 mod named;
 mod picking;
 mod planning;
+mod removing;
 
 pub use backups::add_backups;
 pub use going::Going;
@@ -16,3 +17,4 @@ pub use laws::counts_are_what_goes;
 pub use named::read_named;
 pub use picking::{Named, add_content, add_old};
 pub use planning::{RemovalPlan, plan_removal};
+pub use removing::remove_paths;

@@ -5,8 +5,8 @@ ghost use Rattle.med_outside.specs.State.{IsReady};
 use med_base::{BackupName, Fqdn, Layout, NoMemory, ObjPath};
 use med_index::{IndexError, Planned};
 use med_mem::MemStore;
-use med_outside::Storage;
-use med_removal::{RemovalPlan, plan_removal};
+use med_outside::{Storage, Trace};
+use med_removal::{RemovalPlan, plan_removal, remove_paths};
 use med_suite_rows::calls::first_wrong;
 use std::alloc::Global;
 
@@ -145,6 +145,33 @@ fn a_plan_has_what_goes_in_order(rt: HostRuntime) {
     let mut store = MemStore::new(rt.alloc(), 1000, 1);
     assert_eq!(rt; first_wrong(rt.alloc(), &mut store, BUCKET), None);
     assert_eq!(rt; first_unplanned(rt.alloc(), &mut store, PLANS), None);
+}
+
+const REMOVED: &str = "\
+seconds n1/ => n1/b-1/meta/manifest.json 1007;n1/b-1/meta/tokenmap.json 1006;n1/data/ks/t/s 1012;
+seconds n2/ => n2/data/ks/t/u 1014;
+seconds index/backup_index/ => index/backup_index/b/tokenmap_n2.json 1010;";
+
+// Deletes what goes with the backup b of n1 behind the mend, and answers how many deletes are recorded.
+fn removed<S: Storage>(alloc: Global, store: &mut S) -> Option<usize>
+    requires { IsReady [] (S.state store.old) }
+    ensures { IsReady [] (S.state store.new) }
+{
+    let node = Fqdn::read(alloc, "n1").ok()?;
+    let (layout, names) = (Layout::plain(alloc), names_of(alloc, "b")?);
+    let plan = plan_removal(alloc, store, &layout, &node, names, 0, 2000).ok()?;
+    let mut trace = Trace::new(alloc);
+    trace.reserve(plan.paths.len()).ok()?;
+    remove_paths(alloc, store, &layout, plan.paths, &mut trace).ok()?;
+    Some(trace.changes.len())
+}
+
+#[test]
+fn what_goes_is_deleted_and_nothing_else(rt: HostRuntime) {
+    let mut store = MemStore::new(rt.alloc(), 1000, 1);
+    assert_eq!(rt; first_wrong(rt.alloc(), &mut store, BUCKET), None);
+    assert_eq!(rt; removed(rt.alloc(), &mut store), Some(9));
+    assert_eq!(rt; first_wrong(rt.alloc(), &mut store, REMOVED), None);
 }
 
 // The first manifest in byte order of the paths, which isn't the first by name.

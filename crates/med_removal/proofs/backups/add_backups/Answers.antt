@@ -49,7 +49,8 @@ loop-name-preserved g c =
           (same_content (state start) (state here) (stood start) (stood here) so.looks)
           c.as_str.ensures.fits c.marks_at-marks.ensures so.told done.told);
       within = λ grace now was.
-          done.within (Remove names grace now) (i, c.loop-name-test.true, sym c.name-item.is) (so.within grace now was);
+          done.within (Remove names grace now) (i, c.loop-name-test.true, sym c.name-item.is)
+          (so.within grace now was);
       ready = done.ready;
       looks =
           looks_on (state start) (state here) (state next) (stood start) (stood here) (stood next)
